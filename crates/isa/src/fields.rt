@@ -1,0 +1,124 @@
+ghost use mathlib.Core.Path.{_≡_};
+ghost use Prim.Native.Nat.{_<_};
+ghost use Rattle.word.specs.Field as Field;
+ghost use Rattle.isa.specs.Codes.{formatAt};
+ghost use Rattle.isa.specs.Listing.{I, S, B, U, J, Shift};
+ghost use Rattle.isa.specs.Reads.{constantOf, fieldsOf};
+use crate::Instruction;
+
+// the register number from bit low on
+fn register(word: u32, low: u32) -> u8
+    requires { ⌜ low < 32 ⌝ }
+    ensures { λ r. ⌜ r ≡ Field.field word low 5 ⌝ }
+{
+    word::field(word, low, 5) as u8
+}
+
+fn constant_i(word: u32) -> i32
+    ensures { λ r. ⌜ r ≡ constantOf I word ⌝ }
+{
+    word::extend(0x800, word::field(word, 20, 12))
+}
+
+fn constant_s(word: u32) -> i32
+    ensures { λ r. ⌜ r ≡ constantOf S word ⌝ }
+{
+    word::extend(
+        0x800,
+        word::field(word, 25, 7) * 0x20 + word::field(word, 7, 5),
+    )
+}
+
+fn constant_b(word: u32) -> i32
+    ensures { λ r. ⌜ r ≡ constantOf B word ⌝ }
+{
+    word::extend(
+        0x1000,
+        word::field(word, 31, 1) * 0x1000
+            + word::field(word, 7, 1) * 0x800
+            + word::field(word, 25, 6) * 0x20
+            + word::field(word, 8, 4) * 2,
+    )
+}
+
+fn constant_u(word: u32) -> i32
+    ensures { λ r. ⌜ r ≡ constantOf U word ⌝ }
+{
+    word::field(word, 12, 20) as i32
+}
+
+fn constant_j(word: u32) -> i32
+    ensures { λ r. ⌜ r ≡ constantOf J word ⌝ }
+{
+    word::extend(
+        0x10_0000,
+        word::field(word, 31, 1) * 0x10_0000
+            + word::field(word, 12, 8) * 0x1000
+            + word::field(word, 20, 1) * 0x800
+            + word::field(word, 21, 10) * 2,
+    )
+}
+
+fn shift_amount(word: u32) -> i32
+    ensures { λ r. ⌜ r ≡ constantOf Shift word ⌝ }
+{
+    word::field(word, 20, 5) as i32
+}
+
+fn constant(format: u8, word: u32) -> i32
+    ensures { λ r. ⌜ r ≡ constantOf (formatAt format) word ⌝ }
+{
+    match format {
+        2 => constant_i(word),
+        3 => constant_s(word),
+        4 => constant_b(word),
+        5 => constant_u(word),
+        6 => constant_j(word),
+        7 => shift_amount(word),
+        _ => 0,
+    }
+}
+
+// the instruction in the word, by its format
+pub fn fields(format: u8, operation: u8, word: u32) -> Instruction
+    ensures { λ r. ⌜ r ≡ fieldsOf (formatAt format) operation word ⌝ }
+{
+    let mut i = Instruction {
+        operation,
+        rd: 0,
+        rs1: 0,
+        rs2: 0,
+        constant: constant(format, word),
+    };
+    match format {
+        1 => {
+            i.rd = register(word, 7);
+            i.rs1 = register(word, 15);
+            i.rs2 = register(word, 20);
+        }
+        2 => {
+            i.rd = register(word, 7);
+            i.rs1 = register(word, 15);
+        }
+        3 => {
+            i.rs1 = register(word, 15);
+            i.rs2 = register(word, 20);
+        }
+        4 => {
+            i.rs1 = register(word, 15);
+            i.rs2 = register(word, 20);
+        }
+        5 => {
+            i.rd = register(word, 7);
+        }
+        6 => {
+            i.rd = register(word, 7);
+        }
+        7 => {
+            i.rd = register(word, 7);
+            i.rs1 = register(word, 15);
+        }
+        _ => {}
+    }
+    i
+}

@@ -1,0 +1,3 @@
+-- General laws, which belong to no one layer.
+pub mod Bools
+pub mod Table

@@ -1,0 +1,36 @@
+-- A rule of a table, proved at all of its entries by one test that the checker computes.
+use mathlib.Core.Path.{_≡_, _∙_, subst, sym}
+use mathlib.Core.Bool.{Bool, true, false, _&&_}
+use mathlib.Core.List.{List, [], _∷_}
+use Prim.Native.Nat.{ℕ, zero, suc, _+_, _<_}
+use native.Mathlib.Nat.{add-zero, zero-add, add-suc, suc-add, le-of-suc-le-suc, not-suc-le-zero}
+use lib.Dec.{T}
+use lib.ListN.{length, getD}
+
+-- the second test is made only where the first holds, so that the checker computes one entry after the other
+abbrev pub then : Bool → Bool → Bool
+then true b = b
+then false b = false
+
+then-left : (a b : Bool) → T (then a b) → T a
+then-left true b t = tt
+then-left false b t = t
+
+then-right : (a b : Bool) → T (then a b) → T b
+then-right true b t = t
+then-right false b t = absurd t
+
+-- the test passes at each entry of the table and its index, counted from i
+abbrev pub every : (ℕ → ℕ → Bool) → ℕ → List ℕ → Bool
+every test i [] = true
+every test i (x ∷ xs) = then (test i x) (every test (suc i) xs)
+
+from : (test : ℕ → ℕ → Bool) (xs : List ℕ) (i : ℕ) → T (every test i xs) → (k : ℕ) → k < length xs → T (test (i + k) (getD xs k 0))
+from test [] i t k h = absurd (not-suc-le-zero h)
+from test (x ∷ xs) i t zero h = subst (λ (m : ℕ). T (test m x)) (sym (add-zero i)) (then-left (test i x) (every test (suc i) xs) t)
+from test (x ∷ xs) i t (suc k) h =
+    subst (λ (m : ℕ). T (test m (getD xs k 0))) (suc-add i k ∙ sym (add-suc i k))
+    (from test xs (suc i) (then-right (test i x) (every test (suc i) xs) t) k (le-of-suc-le-suc h))
+
+pub at : (test : ℕ → ℕ → Bool) (xs : List ℕ) → T (every test 0 xs) → (k : ℕ) → k < length xs → T (test k (getD xs k 0))
+at test xs t k h = subst (λ (m : ℕ). T (test m (getD xs k 0))) (zero-add k) (from test xs 0 t k h)

@@ -1,0 +1,4 @@
+-- The definitions that the contracts cite.
+pub mod Field
+pub mod Signed
+pub mod Arithmetic

@@ -1,0 +1,15 @@
+// 32-bit words: parts, two's complement, arithmetic.
+pub mod arithmetic;
+pub mod fields;
+pub mod signed;
+
+pub use arithmetic::add;
+pub use arithmetic::less_signed;
+pub use arithmetic::shift_left;
+pub use arithmetic::shift_right;
+pub use arithmetic::shift_right_signed;
+pub use arithmetic::sub;
+pub use fields::field;
+pub use signed::extend;
+pub use signed::to_signed;
+pub use signed::to_word;
