@@ -2,3 +2,4 @@
 pub mod Sign
 pub mod FieldLaws
 pub mod ExtendLaws
+pub mod BytesLaws

@@ -2,3 +2,4 @@
 pub mod Field
 pub mod Signed
 pub mod Arithmetic
+pub mod Bytes

@@ -1,5 +1,6 @@
-// 32-bit words: parts, two's complement, arithmetic.
+// 32-bit words: parts, two's complement, arithmetic, bytes in memory.
 pub mod arithmetic;
+pub mod bytes;
 pub mod fields;
 pub mod signed;
 
@@ -9,6 +10,8 @@ pub use arithmetic::shift_left;
 pub use arithmetic::shift_right;
 pub use arithmetic::shift_right_signed;
 pub use arithmetic::sub;
+pub use bytes::load;
+pub use bytes::store;
 pub use fields::field;
 pub use signed::extend;
 pub use signed::to_signed;
