@@ -1,11 +1,10 @@
 -- The encoder's test is document 01's ranges; what was read lies in them.
 use Prim.Native.Nat.{ℕ, zero, suc, _+_, _-_, _*_, _/_, _%_, _^_, _≤_, _<_}
 use mathlib.Core.Path.{_≡_, refl, sym, ap, _∙_}
-use mathlib.Core.Bool.{Bool, true, false}
+use mathlib.Core.Bool.{true}
 use native.Mathlib.Nat.{mod-one}
 use native.Mathlib.Omega.{arith}
 use borrow.Author.Tests.{le-leb, leb-true}
-use lib.Dec.{T}
 use lib.IntN.{ℤ, pos, negsuc, _+ℤ_}
 use lib.Signed.{leZ, _≤ℤ_, leZ-yes}
 use Rattle.word.specs.Field.{field}
@@ -13,6 +12,7 @@ use Rattle.word.specs.Signed as Signed
 use Rattle.word.specs.Signed.{extend}
 use Rattle.word.proofs.FieldLaws.{below}
 use Rattle.word.proofs.ExtendLaws.{extend-low, extend-from, extend-to}
+use Rattle.laws.proofs.Bools.{holds, true-of}
 use Rattle.isa.specs.Listing.{Format, R, I, S, B, U, J, Shift, Whole, formatOf}
 use Rattle.isa.specs.Reads.{legal, constantOf, fieldsOf, readOf}
 use Rattle.isa.specs.Encodes.{Limits, limitsOf, minus}
@@ -23,14 +23,6 @@ use Rattle.isa.proofs.FieldsBack.{natural}
 use Rattle.isa.proofs.Parts.{parts}
 use Rattle.isa.proofs.ReadLaws.{legal-word, operation-kept}
 use Rattle.isa.proofs.WordBack.{range13, range21}
-
-holds : (b : Bool) → b ≡ true → T b
-holds true e = tt
-holds false e = let z : _≡_ {A = ℕ} 0 1 = cc in absurd (omega arith)
-
-true-of : (b : Bool) → T b → b ≡ true
-true-of true t = refl
-true-of false t = absurd t
 
 between : (low high c : ℤ) → leZ low c ≡ true → leZ c high ≡ true → Between low high c
 between low high c l h = record { from = leZ-yes (holds _ l); to = leZ-yes (holds _ h) }

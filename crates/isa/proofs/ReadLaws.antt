@@ -5,6 +5,7 @@ use mathlib.Core.Bool.{Bool, true, false}
 use native.Mathlib.Omega.{arith}
 use borrow.Author.Tests.{eqb-true}
 use lib.Dec.{eqb}
+use Rattle.word.proofs.FieldLaws.{below}
 use Rattle.isa.specs.Listing.{Format, R, I, S, B, U, J, Shift, Whole, formatOf, fixedOf}
 use Rattle.isa.specs.Reads.{choose, none, Numbers, legal, illegal, numbersOf, fixedPart, operationFrom, operationOf, fieldsOf, readAs, readOf}
 use Rattle.isa.specs.declared.Instruction.{Instruction}
@@ -78,3 +79,27 @@ operation-kept U operation w = refl
 operation-kept J operation w = refl
 operation-kept Shift operation w = refl
 operation-kept Whole operation w = refl
+
+-- an instruction that was read names an operation and registers
+pub record Small (i : Instruction) : Type 0 where
+  pub first : 1 ≤ i .operation
+  pub operation : i .operation < 40
+  pub rd : i .rd < 32
+  pub rs1 : i .rs1 < 32
+  pub rs2 : i .rs2 < 32
+
+small-at : (F : Format) (operation w : ℕ) → 1 ≤ operation → operation < 40 → Small (fieldsOf F operation w)
+unfolding fieldsOf
+small-at R operation w l h = record { first = l; operation = h; rd = below w 7 5; rs1 = below w 15 5; rs2 = below w 20 5 }
+small-at I operation w l h = record { first = l; operation = h; rd = below w 7 5; rs1 = below w 15 5; rs2 = omega arith }
+small-at S operation w l h = record { first = l; operation = h; rd = omega arith; rs1 = below w 15 5; rs2 = below w 20 5 }
+small-at B operation w l h = record { first = l; operation = h; rd = omega arith; rs1 = below w 15 5; rs2 = below w 20 5 }
+small-at U operation w l h = record { first = l; operation = h; rd = below w 7 5; rs1 = omega arith; rs2 = omega arith }
+small-at J operation w l h = record { first = l; operation = h; rd = below w 7 5; rs1 = omega arith; rs2 = omega arith }
+small-at Shift operation w l h = record { first = l; operation = h; rd = below w 7 5; rs1 = below w 15 5; rs2 = omega arith }
+small-at Whole operation w l h = record { first = l; operation = h; rd = omega arith; rs1 = omega arith; rs2 = omega arith }
+
+pub legal-small : (w : ℕ) (i : Instruction) → readOf w ≡ legal i → Small i
+legal-small w i p =
+    let l = legal-word w i p in
+    rw (l .is) (small-at (formatOf (l .operation)) (l .operation) w (l .first) (omega (arith, l .last)))

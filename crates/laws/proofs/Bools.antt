@@ -1,8 +1,9 @@
 -- What tests say of the facts that they stand for.
-use mathlib.Core.Path.{_≡_, refl, sym}
+use mathlib.Core.Path.{_≡_, refl}
 use mathlib.Core.Bool.{Bool, true, false, not, _&&_, _||_}
 use Prim.Native.Nat.{ℕ}
 use native.Mathlib.Omega.{arith}
+use lib.Dec.{T}
 
 -- false is not true
 pub impossible : {A : Type 0} → _≡_ {A = Bool} false true → A
@@ -24,3 +25,16 @@ pub where-both : (a b c : Bool) → (a ≡ true → b ≡ true → c ≡ true) �
 where-both true true c h = h refl refl
 where-both true false c h = refl
 where-both false b c h = refl
+
+-- a test that holds wherever another does
+pub implied : (a b : Bool) → a ≡ true → not a || b ≡ true → b ≡ true
+implied true b h e = e
+implied false b h e = impossible h
+
+pub holds : (b : Bool) → b ≡ true → T b
+holds true e = tt
+holds false e = impossible e
+
+pub true-of : (b : Bool) → T b → b ≡ true
+true-of true t = refl
+true-of false t = absurd t

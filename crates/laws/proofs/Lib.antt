@@ -1,3 +1,4 @@
 -- General laws, which belong to no one layer.
 pub mod Bools
+pub mod Lists
 pub mod Table

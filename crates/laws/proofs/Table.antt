@@ -34,3 +34,13 @@ from test (x ∷ xs) i t (suc k) h =
 
 pub at : (test : ℕ → ℕ → Bool) (xs : List ℕ) → T (every test 0 xs) → (k : ℕ) → k < length xs → T (test k (getD xs k 0))
 at test xs t k h = subst (λ (m : ℕ). T (test m (getD xs k 0))) (zero-add k) (from test xs 0 t k h)
+
+-- a rule of all entries and of the default holds at every index
+abbrev pub all : {A : Type 0} → (A → Bool) → List A → Bool
+all test [] = true
+all test (x ∷ xs) = then (test x) (all test xs)
+
+pub anywhere : {A : Type 0} (test : A → Bool) (xs : List A) (d : A) → T (all test xs) → T (test d) → (k : ℕ) → T (test (getD xs k d))
+anywhere test [] d t e k = e
+anywhere test (x ∷ xs) d t e zero = then-left (test x) (all test xs) t
+anywhere test (x ∷ xs) d t e (suc k) = anywhere test xs d (then-right (test x) (all test xs) t) e k

@@ -6,6 +6,7 @@ use mathlib.Core.Logic.{_⊎_, inl, inr, ⊎-elim}
 use native.Mathlib.Nat.{add-comm, pow-suc, mod-one}
 use native.Mathlib.Omega.{arith}
 use lib.Arith.{mod-mul}
+use lib.Pow.{pow-add}
 use lib.ListN.{length, getD, set, length-set}
 use lib.Seq.{getD-set-same, getD-set-other}
 use Rattle.word.specs.Bytes.{number, byteOf, put}
@@ -43,3 +44,17 @@ number-put (suc size) bytes at value h =
     let first = set bytes at (value % 256) in
     let k : at + 1 + size ≤ length first = omega (arith, length-set bytes at (value % 256)) in
     rw (put-outside size first (at + 1) (value / 256) at (inl (omega arith)), getD-set-same bytes at (value % 256) 0 (omega arith), number-put size first (at + 1) (value / 256) k, pow-suc 256 size, mod-mul value {m = 256 ^ size} {c = 256} (positive size) (omega arith)) (add-comm _ _)
+
+-- bytes in bits
+pub bytes-bits : (size : ℕ) → 256 ^ size ≡ 2 ^ (8 * size)
+bytes-bits zero = refl
+bytes-bits (suc size) =
+    let e : 8 * suc size ≡ 8 * size + 8 = omega arith in
+    pow-suc 256 size ∙ ap (λ (n : ℕ). n * 256) (bytes-bits size) ∙ sym (pow-add 2 (8 * size) 8) ∙ ap (λ (n : ℕ). 2 ^ n) (sym e)
+
+-- the sign bit halves the range
+pub bytes-half : (size : ℕ) → 0 < size → 256 ^ size ≡ 2 ^ (8 * size - 1) + 2 ^ (8 * size - 1)
+bytes-half size h =
+    let e : 8 * size ≡ suc (8 * size - 1) = omega arith in
+    let p = pow-suc 2 (8 * size - 1) in
+    bytes-bits size ∙ ap (λ (n : ℕ). 2 ^ n) e ∙ p ∙ omega arith

@@ -1,7 +1,9 @@
 -- Laws of the parts of a word. With `field` shut, sums of parts are linear.
 use Prim.Native.Nat.{ℕ, _+_, _*_, _/_, _%_, _^_, _<_}
 use mathlib.Core.Path.{_≡_, sym, ap, _∙_}
-use native.Mathlib.Nat.{add-comm, mod-lt, mod-eq-of-lt, div-one}
+use native.Mathlib.Nat.{add-comm, one-mul, mod-lt, mod-eq-of-lt, div-one}
+use native.Mathlib.Omega.{arith}
+use lib.Dec.{lit<}
 use lib.Pow.{mod-pow-add, shr-shr, mod-mod-pow, pow-pos}
 use lib.Pow as Pow
 use Rattle.word.specs.Field.{field}
@@ -33,3 +35,7 @@ pub two-parts : (k a b x y : ℕ) → a < 2 ^ k → x < 2 ^ k → a + b * 2 ^ k 
 two-parts k a b x y h g e =
     let f : b * 2 ^ k + a ≡ y * 2 ^ k + x = add-comm (b * 2 ^ k) a ∙ e ∙ add-comm x (y * 2 ^ k) in
     (sym (Pow.low b k h) ∙ ap (λ (n : ℕ). n % 2 ^ k) f ∙ Pow.low y k g, sym (Pow.high b k h) ∙ ap (λ (n : ℕ). n / 2 ^ k) f ∙ Pow.high y k g)
+
+-- a power of 2 below 2^32, as a shift makes it
+pub shifted-one : (k : ℕ) → k < 32 → (1 * 2 ^ k) % 2 ^ 32 ≡ 2 ^ k
+shifted-one k h = Pow.shl-exact 1 k 32 (lit< tt) (omega arith) ∙ one-mul (2 ^ k)

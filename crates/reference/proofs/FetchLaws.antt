@@ -1,0 +1,56 @@
+-- What a fetch says of the program.
+use Prim.Native.Nat.{ℕ}
+use mathlib.Core.Path.{_≡_, refl, sym, ap, subst, _∙_}
+use mathlib.Core.Bool.{Bool, true, false}
+use mathlib.Core.List.{List}
+use native.Mathlib.Omega.{arith}
+use borrow.Author.Tests.{eqb-true}
+use lib.Dec.{eqb}
+use lib.ListN.{length}
+use Rattle.word.specs.Bytes.{number, byteOf}
+use Rattle.laws.proofs.Bools.{impossible}
+use Rattle.isa.specs.Reads.{choose, Numbers, legal, illegal, readOf}
+use Rattle.isa.specs.declared.Instruction.{Instruction}
+use Rattle.isa.proofs.ReadLaws.{Small, legal-small}
+use Rattle.reference.specs.Memory.{accessible}
+use Rattle.reference.specs.Fetch.{FetchNumbers, noInstruction, fetchNumbers, ofReading, fetchAt}
+use Rattle.reference.specs.declared.Stop.{Stop}
+use Rattle.reference.specs.declared.Fetching.{Fetching}
+use Rattle.reference.specs.declared.Fetching.the-variants.{Found, Stopped}
+
+-- document 01's numbers settle the answer
+pub fetch-injective : (a b : Fetching) → fetchNumbers a ≡ fetchNumbers b → a ≡ b
+fetch-injective (Found i) (Found j) e = ap (λ (n : FetchNumbers). Found (n .fields)) e
+fetch-injective (Found i) (Stopped t) e = impossible (sym (ap (λ (n : FetchNumbers). n .found) e))
+fetch-injective (Stopped s) (Found j) e = impossible (ap (λ (n : FetchNumbers). n .found) e)
+fetch-injective (Stopped s) (Stopped t) e = ap (λ (n : FetchNumbers). Stopped (record { cause = n .cause })) e
+
+module _ (program : List ℕ) (address : ℕ) where
+  pub fetch-outside : accessible (length program) address 4 ≡ false → noInstruction 4 ≡ fetchAt program address
+  unfolding fetchAt
+  fetch-outside a = rw a
+
+  pub fetch-illegal : accessible (length program) address 4 ≡ true → readOf (number (byteOf program) address 4) ≡ illegal → noInstruction 1 ≡ fetchAt program address
+  unfolding fetchAt
+  fetch-illegal a r = rw (a, r)
+
+  pub fetch-legal : accessible (length program) address 4 ≡ true → (i : Instruction) → readOf (number (byteOf program) address 4) ≡ legal i
+      → fetchNumbers (Found i) ≡ fetchAt program address
+  unfolding fetchAt
+  fetch-legal a i r = rw (a, r)
+
+legal-of : (n : Numbers) → eqb (n .cause) 0 ≡ true → n ≡ legal (n .fields)
+legal-of n e = ap (λ (c : ℕ). record { cause = c; fields = n .fields }) (eqb-true (n .cause) 0 e)
+
+small-at : (b : Bool) (w : ℕ) → choose b (ofReading (readOf w)) (noInstruction 4) .found ≡ true → Small (choose b (ofReading (readOf w)) (noInstruction 4) .fields)
+small-at true w e = legal-small w (readOf w .fields) (legal-of (readOf w) e)
+small-at false w e = impossible e
+
+-- what is fetched names an operation and registers
+pub fetched-small : (program : List ℕ) (address : ℕ) → fetchAt program address .found ≡ true → Small (fetchAt program address .fields)
+unfolding fetchAt
+fetched-small program address e = small-at (accessible (length program) address 4) (number (byteOf program) address 4) e
+
+pub found-small : (program : List ℕ) (address : ℕ) (i : Instruction) → fetchNumbers (Found i) ≡ fetchAt program address → Small i
+found-small program address i e =
+    subst (λ (n : FetchNumbers). n .found ≡ true → Small (n .fields)) (sym e) (fetched-small program address) refl
