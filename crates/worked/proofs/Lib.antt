@@ -1,0 +1,2 @@
+-- The worked values hold.
+pub mod Values
