@@ -1,0 +1,27 @@
+-- "Each pool is a chain: a head, and for each free number the next; zero ends it."
+use Prim.Native.Nat.{ℕ}
+use mathlib.Core.List.{List, [], _∷_}
+use mathlib.Core.Path.{_≡_}
+use lib.Dec.{eqb}
+use lib.ListN.{length, getD}
+use Rattle.isa.specs.Reads.{choose}
+use Rattle.tables.specs.Table.{lookUp, storeUnder}
+
+-- "Taking takes the head (zero from an empty pool, which stays)": the head and the links afterwards. The link of a number outside its pool is zero.
+abbrev pub takenHead : List ℕ → ℕ → ℕ
+takenHead link head = lookUp link head
+
+abbrev pub takenLink : List ℕ → ℕ → List ℕ
+takenLink link head = storeUnder link head 0
+
+-- "freeing puts at the head"; "freeing zero … does nothing"
+abbrev pub freedHead : ℕ → ℕ → ℕ
+freedHead head n = choose (eqb n 0) head n
+
+abbrev pub freedLink : List ℕ → ℕ → ℕ → List ℕ
+freedLink link head n = storeUnder link n head
+
+-- the chain from a number on is this list of numbers
+unfoldable pub Spells : List ℕ → ℕ → List ℕ → Type 0
+Spells link head [] = head ≡ 0
+Spells link head (n ∷ numbers) = (head ≡ n) × (n ≡ 0 → ⊥) × Spells link (lookUp link n) numbers

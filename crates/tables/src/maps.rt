@@ -1,0 +1,88 @@
+// Tables by number: what stands under 0, or beyond the table, reads as 0 and is never written.
+ghost use mathlib.Core.Path.{_≡_};
+ghost use lib.ListN.{length};
+ghost use Rattle.tables.specs.Table.{lookUp, storeUnder};
+
+// a name's register, or the next free number
+pub fn look_up(table: &[u8; 96], n: u8) -> u8
+    requires { ⌜ length (now table) ≡ 96 ⌝ }
+    ensures { λ r. ⌜ r ≡ lookUp (now (table .entry)) n ⌝ }
+{
+    let at = n as usize;
+    if at == 0 {
+        return 0;
+    }
+    if at < 96 { table[at] } else { 0 }
+}
+
+pub fn store_under(table: &mut [u8; 96], n: u8, value: u8)
+    requires { ⌜ length (now table) ≡ 96 ⌝ }
+    ensures { λ r. ⌜ now (table .exit) ≡ storeUnder (now (table .entry)) n value ⌝ }
+{
+    let at = n as usize;
+    if at != 0 {
+        if at < 96 {
+            table[at] = value;
+        }
+    }
+}
+
+// a register's value
+pub fn value(values: &[u32; 96], register: u8) -> u32
+    requires { ⌜ length (now values) ≡ 96 ⌝ }
+    ensures { λ r. ⌜ r ≡ lookUp (now (values .entry)) register ⌝ }
+{
+    let at = register as usize;
+    if at == 0 {
+        return 0;
+    }
+    if at < 96 { values[at] } else { 0 }
+}
+
+pub fn store_value(values: &mut [u32; 96], register: u8, value: u32)
+    requires { ⌜ length (now values) ≡ 96 ⌝ }
+    ensures { λ r. ⌜ now (values .exit) ≡ storeUnder (now (values .entry)) register value ⌝ }
+{
+    let at = register as usize;
+    if at != 0 {
+        if at < 96 {
+            values[at] = value;
+        }
+    }
+}
+
+// a logical register's name or register in the general map
+pub fn mapped(map: &[u8; 32], logical: u8) -> u8
+    requires { ⌜ length (now map) ≡ 32 ⌝ }
+    ensures { λ r. ⌜ r ≡ lookUp (now (map .entry)) logical ⌝ }
+{
+    let at = logical as usize;
+    if at == 0 {
+        return 0;
+    }
+    if at < 32 { map[at] } else { 0 }
+}
+
+pub fn map_to(map: &mut [u8; 32], logical: u8, value: u8)
+    requires { ⌜ length (now map) ≡ 32 ⌝ }
+    ensures { λ r. ⌜ now (map .exit) ≡ storeUnder (now (map .entry)) logical value ⌝ }
+{
+    let at = logical as usize;
+    if at != 0 {
+        if at < 32 {
+            map[at] = value;
+        }
+    }
+}
+
+pub fn set_valid(valid: &mut [bool; 32], logical: u8, value: bool)
+    requires { ⌜ length (now valid) ≡ 32 ⌝ }
+    ensures { λ r. ⌜ now (valid .exit) ≡ storeUnder (now (valid .entry)) logical value ⌝ }
+{
+    let at = logical as usize;
+    if at != 0 {
+        if at < 32 {
+            valid[at] = value;
+        }
+    }
+}

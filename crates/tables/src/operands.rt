@@ -1,0 +1,61 @@
+ghost use mathlib.Core.Path.{_≡_};
+ghost use lib.ListN.{length};
+ghost use Rattle.tables.specs.Operand as Operands;
+use crate::Operand;
+use crate::maps;
+
+// ready with this register where it is on this name
+pub fn wake(operand: Operand, name: u8, register: u8) -> Operand
+    ensures { λ r. ⌜ r ≡ Operands.wake name register operand ⌝ }
+{
+    match operand {
+        Operand::Zero => Operand::Zero,
+        Operand::Waiting(n) => if n == name {
+            Operand::Ready(n, register)
+        } else {
+            Operand::Waiting(n)
+        },
+        Operand::Ready(n, r) => if n == name {
+            Operand::Ready(n, register)
+        } else {
+            Operand::Ready(n, r)
+        },
+    }
+}
+
+// waiting again where it is on this name
+pub fn sleep(operand: Operand, name: u8) -> Operand
+    ensures { λ r. ⌜ r ≡ Operands.sleep name operand ⌝ }
+{
+    match operand {
+        Operand::Zero => Operand::Zero,
+        Operand::Waiting(n) => Operand::Waiting(n),
+        Operand::Ready(n, r) => if n == name {
+            Operand::Waiting(n)
+        } else {
+            Operand::Ready(n, r)
+        },
+    }
+}
+
+pub fn is_ready(operand: Operand) -> bool
+    ensures { λ r. ⌜ r ≡ Operands.isReady operand ⌝ }
+{
+    match operand {
+        Operand::Zero => true,
+        Operand::Waiting(_) => false,
+        Operand::Ready(_, _) => true,
+    }
+}
+
+// the value that an operand reads
+pub fn value_of(values: &[u32; 96], operand: Operand) -> u32
+    requires { ⌜ length (now values) ≡ 96 ⌝ }
+    ensures { λ r. ⌜ r ≡ Operands.valueOf (now (values .entry)) operand ⌝ }
+{
+    match operand {
+        Operand::Zero => 0,
+        Operand::Waiting(_) => 0,
+        Operand::Ready(_, r) => maps::value(values, r),
+    }
+}
