@@ -1,10 +1,13 @@
 -- Reading and storing by number, where the number is 0, in the table or beyond it.
-use Prim.Native.Nat.{ℕ, _≤_}
-use mathlib.Core.Path.{_≡_, refl, sym, _∙_}
-use mathlib.Core.List.{List}
+use Prim.Native.Nat.{ℕ, zero, suc, _≤_, _<_}
+use mathlib.Core.Path.{_≡_, refl, sym, ap, _∙_}
+use mathlib.Core.Bool.{Bool, true, false}
+use mathlib.Core.List.{List, [], _∷_}
 use borrow.Author.Tests.{eq-eqb, ne-eqb}
 use lib.ListN.{length, getD, set, List·getD-eq-default}
-use lib.Seq.{set-out}
+use lib.Dec.{eqb}
+use lib.Seq.{set-out, getD-set-same, getD-set-other}
+use Rattle.isa.specs.Reads.{choose}
 use Rattle.tables.specs.Table.{lookUp, storeUnder}
 
 module _ (table : List ℕ) (n : ℕ) where
@@ -30,3 +33,32 @@ module _ {A : Type 0} (table : List A) (n : ℕ) (value : A) where
 
   pub store-beyond : (n ≡ 0 → ⊥) → length table ≤ n → table ≡ storeUnder table n value
   store-beyond h l = sym (set-out table n value l) ∙ store-within h
+
+-- what stands under a number after a store
+module _ (table : List ℕ) (n k value : ℕ) where
+  pub look-other : (k ≡ n → ⊥) → lookUp (storeUnder table n value) k ≡ lookUp table k
+  unfolding lookUp storeUnder
+  look-other h = at (eqb n 0) (eqb k 0)
+    where
+      at : (a b : Bool) → choose b 0 (getD (choose a table (set table n value)) k 0) ≡ choose b 0 (getD table k 0)
+      at true b = refl
+      at false true = refl
+      at false false = getD-set-other table n k value 0 h
+
+pub look-same : (table : List ℕ) (n value : ℕ) → (n ≡ 0 → ⊥) → n < length table → lookUp (storeUnder table n value) n ≡ value
+look-same table n value h l =
+    sym (ap (λ (t : List ℕ). lookUp t n) (store-within table n value h)) ∙ sym (look-within (set table n value) n h) ∙ getD-set-same table n value 0 l
+
+cleared : (table : List ℕ) (n : ℕ) → getD (set table n 0) n 0 ≡ 0
+cleared [] n = refl
+cleared (x ∷ xs) zero = refl
+cleared (x ∷ xs) (suc n) = cleared xs n
+
+-- a number whose place was cleared reads 0, in the table or beyond it
+pub look-cleared : (table : List ℕ) (n : ℕ) → lookUp (storeUnder table n 0) n ≡ 0
+unfolding lookUp storeUnder
+look-cleared table n = at (eqb n 0)
+  where
+    at : (a : Bool) → choose a 0 (getD (choose a table (set table n 0)) n 0) ≡ 0
+    at true = refl
+    at false = cleared table n

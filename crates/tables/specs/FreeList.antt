@@ -1,9 +1,8 @@
 -- "Each pool is a chain: a head, and for each free number the next; zero ends it."
-use Prim.Native.Nat.{ℕ}
+use Prim.Native.Nat.{ℕ, _+_, _≤_}
 use mathlib.Core.List.{List, [], _∷_}
 use mathlib.Core.Path.{_≡_}
 use lib.Dec.{eqb}
-use lib.ListN.{length, getD}
 use Rattle.isa.specs.Reads.{choose}
 use Rattle.tables.specs.Table.{lookUp, storeUnder}
 
@@ -21,7 +20,18 @@ freedHead head n = choose (eqb n 0) head n
 abbrev pub freedLink : List ℕ → ℕ → ℕ → List ℕ
 freedLink link head n = storeUnder link n head
 
--- the chain from a number on is this list of numbers
+-- the chain from the head on is this list of numbers
 unfoldable pub Spells : List ℕ → ℕ → List ℕ → Type 0
 Spells link head [] = head ≡ 0
 Spells link head (n ∷ numbers) = (head ≡ n) × (n ≡ 0 → ⊥) × Spells link (lookUp link n) numbers
+
+-- how often a number stands in a list
+unfoldable pub occurrences : ℕ → List ℕ → ℕ
+occurrences k [] = 0
+occurrences k (n ∷ numbers) = choose (eqb n k) 1 0 + occurrences k numbers
+
+-- a pool of these numbers, each once; "The link of a number outside its pool is zero."
+pub record Pool (link : List ℕ) (head : ℕ) (numbers : List ℕ) : Type 0 where
+  pub spells : Spells link head numbers
+  pub once : (k : ℕ) → occurrences k numbers ≤ 1
+  pub outside : (k : ℕ) → occurrences k numbers ≡ 0 → lookUp link k ≡ 0
