@@ -1,20 +1,18 @@
 -- Refusals 3 and 4, by the lengths.
 use mathlib.Core.Path.{_≡_}
 use mathlib.Core.Bool.{true, false}
-use mathlib.Core.List.{List}
 use Prim.Native.Nat.{ℕ}
-use lib.ListN.{length}
-use Rattle.reference.specs.Step.{first, programFits, dataFits, lengthRefusal}
+use Rattle.reference.specs.Step.{first, programFits, dataFits, lengthsRefusal}
 
-module _ (program memory : List ℕ) where
-  pub program-refused : programFits (length program) ≡ false → 3 ≡ lengthRefusal program memory
-  unfolding lengthRefusal first
+module _ (program bytes : ℕ) where
+  pub program-refused : programFits program ≡ false → 3 ≡ lengthsRefusal program bytes
+  unfolding lengthsRefusal first
   program-refused p = rw p
 
-  pub data-refused : programFits (length program) ≡ true → dataFits (length memory) ≡ false → 4 ≡ lengthRefusal program memory
-  unfolding lengthRefusal first
+  pub data-refused : programFits program ≡ true → dataFits bytes ≡ false → 4 ≡ lengthsRefusal program bytes
+  unfolding lengthsRefusal first
   data-refused p d = rw (p, d)
 
-  pub none-refused : programFits (length program) ≡ true → dataFits (length memory) ≡ true → 0 ≡ lengthRefusal program memory
-  unfolding lengthRefusal first
+  pub none-refused : programFits program ≡ true → dataFits bytes ≡ true → 0 ≡ lengthsRefusal program bytes
+  unfolding lengthsRefusal first
   none-refused p d = rw (p, d)

@@ -88,8 +88,11 @@ programFits length = leb 4 length && leb length 16_384 && eqb (length % 4) 0
 abbrev pub dataFits : ℕ → Bool
 dataFits length = leb length 16_384
 
-unfoldable pub lengthRefusal : List ℕ → List ℕ → ℕ
-lengthRefusal program memory = first (when (not (programFits (length program))) 3 ∷ when (not (dataFits (length memory))) 4 ∷ [])
+unfoldable pub lengthsRefusal : ℕ → ℕ → ℕ
+lengthsRefusal program bytes = first (when (not (programFits program)) 3 ∷ when (not (dataFits bytes)) 4 ∷ [])
+
+abbrev pub lengthRefusal : List ℕ → List ℕ → ℕ
+lengthRefusal program memory = lengthsRefusal (length program) (length memory)
 
 -- what the exported step hands back, and the data it leaves
 pub record StepAnswer : Type 0 where

@@ -36,7 +36,7 @@ kept (x ∷ numbers) link head n value o s =
     (s .0, s .1, subst (λ (h : ℕ). Spells (storeUnder link n value) h numbers) (sym (look-other link n x value other)) (kept numbers link (lookUp link x) n value (sym (occurs-later n x numbers other) ∙ o) (s .2)))
 
 -- by whether two numbers are the same
-cases : {A : Type 0} (n k : ℕ) → (n ≡ k → A) → ((n ≡ k → ⊥) → A) → A
+pub cases : {A : Type 0} (n k : ℕ) → (n ≡ k → A) → ((n ≡ k → ⊥) → A) → A
 cases {A = A} n k same other = at (eqb n k) refl
   where
     at : (b : Bool) → eqb n k ≡ b → A

@@ -1,0 +1,4 @@
+-- Laws of the machine.
+pub mod TabulateLaws
+pub mod SetUpLaws
+pub mod FreshLaws

@@ -1,0 +1,38 @@
+// The Window level: a renaming core driven call by call.
+pub mod setting;
+
+use reference::Stop;
+use tables::Entry;
+
+// Window W, registers N, and the lengths of program and data.
+pub struct Setup {
+    pub window: u8,
+    pub registers: u8,
+    pub program: u16,
+    pub bytes: u16,
+}
+
+// The machine: under 4 KB, by value. Every table is a field of its own; index 0 of a table is nobody's.
+pub struct Machine {
+    pub setup: Setup,
+    pub count: u8,
+    pub entries: [Entry; 64],
+    pub mapname: [u8; 32],
+    pub mapregister: [u8; 32],
+    pub mapvalid: [bool; 32],
+    pub physical: [u8; 96],
+    pub values: [u32; 96],
+    pub registerhead: u8,
+    pub registerlink: [u8; 96],
+    pub namehead: u8,
+    pub namelink: [u8; 96],
+    pub fetch: u32,
+    pub next: u32,
+    pub halt: Stop,
+}
+
+// The machine after a call, with 0 or a refusal.
+pub struct Answer {
+    pub machine: Machine,
+    pub number: u8,
+}
