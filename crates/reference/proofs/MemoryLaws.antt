@@ -14,7 +14,7 @@ use Rattle.isa.specs.Reads.{choose}
 use Rattle.isa.specs.declared.Instruction.{Instruction}
 use Rattle.reference.specs.Actions.{Computation, Action, Computes, LoadsSigned, LoadsUnsigned, Stores, Stops, actionOf}
 use Rattle.reference.specs.Codes.{class}
-use Rattle.reference.specs.Memory.{accessible, effective, signExtended, secondBy, secondValue, storedBy, stored}
+use Rattle.reference.specs.Memory.{accessible, effective, signExtended, secondBy, secondValue, storedBy, stored, endsWithinBy, storeEndsWithin}
 
 -- an access stays within the length
 pub access-room : (len address size : ℕ) → accessible len address size ≡ true → address + size ≤ len
@@ -86,3 +86,16 @@ stored-length (LoadsSigned size) address value memory = refl
 stored-length (LoadsUnsigned size) address value memory = refl
 stored-length (Stores size) address value memory = choose-length (accessible (length memory) address size) (put memory address size value) memory (put-length size memory address value)
 stored-length (Stops cause) address value memory = refl
+
+-- where a store ends
+pub ends-other : (a : Action) (len address : ℕ) → (class a ≡ 10 → ⊥) → true ≡ endsWithinBy a len address
+unfolding endsWithinBy
+ends-other (Computes computation) len address h = refl
+ends-other (LoadsSigned size) len address h = refl
+ends-other (LoadsUnsigned size) len address h = refl
+ends-other (Stores size) len address h = absurd (h refl)
+ends-other (Stops cause) len address h = refl
+
+pub ends-store : (i : Instruction) (first len size : ℕ) → actionOf (i .operation) ≡ Stores size → leb (effective i first + size) len ≡ storeEndsWithin len i first
+unfolding endsWithinBy
+ends-store i first len size e = rw e

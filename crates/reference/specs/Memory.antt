@@ -1,6 +1,6 @@
 -- Loads and stores, over their size in bytes.
 use Prim.Native.Nat.{ℕ, _+_, _-_, _*_, _%_, _^_}
-use mathlib.Core.Bool.{Bool, _&&_}
+use mathlib.Core.Bool.{Bool, true, _&&_}
 use mathlib.Core.List.{List}
 use lib.Dec.{leb, eqb}
 use lib.ListN.{length}
@@ -44,3 +44,14 @@ storedBy (Stops cause) address value memory = memory
 
 abbrev pub stored : Instruction → ℕ → ℕ → List ℕ → List ℕ
 stored i first second memory = storedBy (actionOf (i .operation)) (effective i first) second memory
+
+-- whether a store's bytes stay within the length, aligned or not; other instructions have none
+unfoldable pub endsWithinBy : Action → ℕ → ℕ → Bool
+endsWithinBy (Computes computation) length address = true
+endsWithinBy (LoadsSigned size) length address = true
+endsWithinBy (LoadsUnsigned size) length address = true
+endsWithinBy (Stores size) length address = leb (address + size) length
+endsWithinBy (Stops cause) length address = true
+
+abbrev pub storeEndsWithin : ℕ → Instruction → ℕ → Bool
+storeEndsWithin length i first = endsWithinBy (actionOf (i .operation)) length (effective i first)

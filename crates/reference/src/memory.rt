@@ -78,3 +78,17 @@ pub fn store(i: Instruction, data: &mut [u8], first: u32, second: u32)
         }
     }
 }
+
+// whether a store's bytes stay within the length; other instructions have none
+pub fn store_ends_within(length: usize, i: Instruction, first: u32) -> bool
+    requires { ⌜ i .operation < 40 ⌝ }
+    ensures { λ r. ⌜ r ≡ Memory.storeEndsWithin length i first ⌝ }
+{
+    let operation = i.operation as usize;
+    if actions::class(operation) == 10 {
+        let size = actions::kind(operation);
+        let address = effective(i, first);
+        return address as usize + size as usize <= length;
+    }
+    true
+}

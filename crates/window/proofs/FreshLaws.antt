@@ -14,9 +14,8 @@ use Rattle.tables.specs.Table.{lookUp}
 use Rattle.tables.specs.FreeList.{Spells, occurrences, Pool}
 use Rattle.tables.proofs.PoolLaws.{cases, occurs-first, occurs-later}
 use Rattle.tables.proofs.TableLaws.{look-within, look-beyond, look-zero}
-use Rattle.window.specs.Machine.{namesOf}
 use Rattle.window.specs.SetUp.{risingNext, risingLink}
-use Rattle.window.specs.Statement.{rising, Fresh}
+use Rattle.window.specs.Statement.{rising}
 use Rattle.window.proofs.TabulateLaws.{tabulate-length, tabulate-at}
 
 -- where a number stands in a rising list
@@ -88,12 +87,3 @@ module _ (last : ℕ) (from32 : 32 ≤ last) (to95 : last ≤ 95) where
         once = occurs-once (suc n) 32;
         outside = λ k o. link-end k (place n k e o (leb 32 k) (leb k last) refl refl);
       }
-
-pub fresh : (window registers program bytes : ℕ) → 1 ≤ window → window ≤ 64 → 32 ≤ registers → registers ≤ 95 → Fresh window registers program bytes
-fresh window registers program bytes w1 w64 n32 n95 =
-    let a : registers - 31 ≡ suc (registers - 32) = omega arith in
-    let b : window ≡ suc (window - 1) = omega arith in
-    record {
-      freeregisters = subst (λ (x : ℕ). Pool (risingLink registers) 32 (rising 32 x)) (sym a) (rising-pool registers n32 n95 (registers - 32) (omega arith));
-      freenames = subst (λ (x : ℕ). Pool (risingLink (namesOf window)) 32 (rising 32 x)) (sym b) (rising-pool (namesOf window) (omega arith) (omega arith) (window - 1) (omega arith));
-    }

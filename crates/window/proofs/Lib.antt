@@ -2,3 +2,5 @@
 pub mod TabulateLaws
 pub mod SetUpLaws
 pub mod FreshLaws
+pub mod RangeLaws
+pub mod FreshInRange

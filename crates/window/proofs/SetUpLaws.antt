@@ -35,7 +35,7 @@ module _ (window registers program bytes : ℕ) where
     answer-fresh h = rw (eq-eqb (setUpRefusal window registers program bytes) 0 (sym e ∙ h))
 
 -- what an accepted set-up says of its numbers
-none-applies : (a b c d : Bool) → first (when (not a) 1 ∷ when (not b) 2 ∷ when (not c) 3 ∷ when (not d) 4 ∷ []) ≡ 0 → (a ≡ true) × (b ≡ true) × (c ≡ true) × (d ≡ true)
+pub none-applies : (a b c d : Bool) → first (when (not a) 1 ∷ when (not b) 2 ∷ when (not c) 3 ∷ when (not d) 4 ∷ []) ≡ 0 → (a ≡ true) × (b ≡ true) × (c ≡ true) × (d ≡ true)
 unfolding first
 none-applies true true true true e = (refl, refl, refl, refl)
 none-applies true true true false e = absurd (omega arith)

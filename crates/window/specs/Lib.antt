@@ -1,4 +1,5 @@
 -- The definitions that the contracts cite, in reading order.
 pub mod Machine
 pub mod SetUp
+pub mod Range
 pub mod Statement
