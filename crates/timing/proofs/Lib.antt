@@ -1,0 +1,3 @@
+-- Laws of the benchmark's functions.
+pub mod Calls
+pub mod Sums

@@ -1,0 +1,282 @@
+//! The speed of the in-order run beside a plain Rust interpreter and, where it is installed, QEMU with one instruction
+//! a block. Started by the script `benchmark`; docs/SPEED.md says what the figures mean.
+mod interpreter;
+mod qemu;
+
+use std::fs;
+use std::hint::black_box;
+use std::os::unix::fs::PermissionsExt;
+use std::path::{Path, PathBuf};
+use std::time::{Duration, Instant};
+
+/// Each time is the best of this many, at each of four places of the stack.
+const BEST_OF: usize = 5;
+/// Calls of the run, of 65,535 steps each: about two million steps in a sample, and enough for a whole loop.
+const SAMPLE: u32 = 31;
+const WHOLE: u32 = 1_000;
+const DATA: usize = 16_384;
+const WORDS: usize = 4_096;
+
+/// What the crate `timing` exports.
+mod timing {
+    #[repr(C)]
+    pub struct Timed {
+        pub steps: u64,
+        pub cause: u32,
+        pub refusal: u32,
+    }
+
+    extern "C" {
+        fn timing_run(
+            program: *const u8,
+            bytes: usize,
+            data: *mut u8,
+            length: usize,
+            calls: u32,
+        ) -> Timed;
+        fn timing_find(words: *const u32, count: usize, rounds: u32) -> u64;
+    }
+
+    pub fn run(program: &[u8], data: &mut [u8], calls: u32) -> Timed {
+        // SAFETY: neither function requires anything but that a slice is one.
+        unsafe {
+            timing_run(
+                program.as_ptr(),
+                program.len(),
+                data.as_mut_ptr(),
+                data.len(),
+                calls,
+            )
+        }
+    }
+
+    pub fn find(words: &[u32], rounds: u32) -> u64 {
+        // SAFETY: as above.
+        unsafe { timing_find(words.as_ptr(), words.len(), rounds) }
+    }
+}
+
+/// The plain interpreter over as many calls, in the form of `timing::run`.
+fn plain_run(program: &[u8], data: &mut [u8], calls: u32) -> timing::Timed {
+    let (mut registers, mut address) = ([0; 32], 0);
+    let mut all = timing::Timed {
+        steps: 0,
+        cause: 0,
+        refusal: 0,
+    };
+    for _ in 0..calls {
+        let ran = interpreter::run(program, data, registers, address, u16::MAX);
+        (registers, address) = (ran.registers, ran.address);
+        all.steps += ran.steps as u64;
+        all.cause = ran.cause as u32;
+        all.refusal = ran.refusal as u32;
+        if ran.cause != 0 || ran.refusal != 0 {
+            break;
+        }
+    }
+    all
+}
+
+/// The words that a run reads, after its first thousand steps.
+fn words_read(program: &[u8], data: &[u8]) -> Vec<u32> {
+    let mut data = data.to_vec();
+    let mut ran = interpreter::run(program, &mut data, [0; 32], 0, 1_000);
+    let mut words = Vec::with_capacity(WORDS);
+    while words.len() < WORDS {
+        words.push(interpreter::fetch(program, ran.address).expect("the loop goes on"));
+        ran = interpreter::run(program, &mut data, ran.registers, ran.address, 1);
+    }
+    words
+}
+
+/// The whole loop on both: its steps and the data that it leaves, on which they have to agree.
+fn compared(name: &str, program: &[u8], data: &[u8]) -> (u64, Vec<u8>) {
+    let (mut left, mut plain_left) = (data.to_vec(), data.to_vec());
+    let r = timing::run(program, &mut left, WHOLE);
+    let p = plain_run(program, &mut plain_left, WHOLE);
+    assert_eq!(
+        (r.steps, r.cause, r.refusal),
+        (p.steps, p.cause, p.refusal),
+        "{name}: steps, cause, refusal"
+    );
+    assert!(left == plain_left, "{name}: the data differ");
+    assert_eq!(r.cause, 2, "{name}: the loop ends with ECALL");
+    (r.steps, left)
+}
+
+fn nanoseconds(took: Duration, steps: u64) -> f64 {
+    took.as_secs_f64() * 1e9 / steps as f64
+}
+
+/// The least time of all samples, in nanoseconds a step.
+struct Best(f64);
+
+impl Best {
+    fn sample(&mut self, work: impl FnOnce() -> u64) {
+        let began = Instant::now();
+        let steps = work();
+        self.0 = self.0.min(nanoseconds(began.elapsed(), steps));
+    }
+}
+
+/// Works with the stack lower by some bytes: a table on it costs more where it lies across lines of the cache or pages.
+#[inline(never)]
+fn lower<const BYTES: usize>(work: &mut dyn FnMut()) {
+    let unused = [0u8; BYTES];
+    black_box(&unused);
+    work();
+}
+
+struct Times {
+    reference: f64,
+    find: f64,
+    plain: f64,
+}
+
+fn times(program: &[u8], data: &[u8]) -> Times {
+    let words = words_read(program, data);
+    let rounds = SAMPLE * 65_535 / WORDS as u32;
+    let (mut reference, mut find, mut plain) = (Best(f64::MAX), Best(f64::MAX), Best(f64::MAX));
+    let mut each = || {
+        let mut d = data.to_vec();
+        reference.sample(|| timing::run(program, &mut d, SAMPLE).steps);
+        find.sample(|| {
+            assert!(timing::find(&words, rounds) > 0);
+            rounds as u64 * WORDS as u64
+        });
+        d.copy_from_slice(data);
+        plain.sample(|| plain_run(program, &mut d, SAMPLE).steps);
+    };
+    for _ in 0..BEST_OF {
+        lower::<16>(&mut each);
+        lower::<1_056>(&mut each);
+        lower::<2_096>(&mut each);
+        lower::<3_136>(&mut each);
+    }
+    Times {
+        reference: reference.0,
+        find: find.0,
+        plain: plain.0,
+    }
+}
+
+struct Qemu {
+    option: &'static str,
+    /// a program that exits at once
+    exit: PathBuf,
+}
+
+/// QEMU's time for the whole loop without its start, in nanoseconds a step; it has to leave the same data.
+fn emulated(name: &str, q: &Qemu, file: &Path, steps: u64, left: &[u8]) -> f64 {
+    let (mut start, mut whole) = (Duration::MAX, Duration::MAX);
+    for _ in 0..BEST_OF {
+        start = start.min(qemu::run(q.option, &q.exit).expect("QEMU runs").0);
+        let (took, output) = qemu::run(q.option, file).expect("QEMU runs");
+        assert!(output.stdout == left, "{name}: QEMU leaves other data");
+        whole = whole.min(took);
+    }
+    nanoseconds(whole.saturating_sub(start), steps)
+}
+
+fn measure(name: &str, program: &[u8], data: &[u8], room: &Path, qemu: Option<&Qemu>) {
+    let (steps, left) = compared(name, program, data);
+    let Times {
+        reference,
+        find,
+        plain,
+    } = times(program, data);
+    let file = room.join(name).with_extension("elf");
+    write_program(&file, &qemu::elf(program, data));
+    let qemu = qemu.map(|q| (q.option, emulated(name, q, &file, steps, &left)));
+
+    let line = |what: &str, rate: String, ns: String, ratio: String| {
+        println!("| {what:<31} | {rate:>8} | {ns:>12} | {ratio:>12} |")
+    };
+    let row = |what: &str, ns: f64| {
+        line(
+            what,
+            format!("{:.1}", 1e3 / ns),
+            format!("{ns:.2}"),
+            format!("{:.2}", ns / plain),
+        )
+    };
+    let too = if qemu.is_some() {
+        "; QEMU's data too"
+    } else {
+        ""
+    };
+    println!();
+    println!("The {name} loop, {steps} steps to its ECALL. Steps, cause and data agree{too}.");
+    println!();
+    line("", "Msteps/s".into(), "ns/step".into(), "ratio".into());
+    println!(
+        "|{}|{}:|{}:|{}:|",
+        "-".repeat(33),
+        "-".repeat(9),
+        "-".repeat(13),
+        "-".repeat(13)
+    );
+    row("in-order run", reference);
+    // the search is timed by itself, where it may take a tenth more or less
+    let (without, error) = (reference - find, find / 10.0);
+    line(
+        "in-order run without the search",
+        String::new(),
+        format!("{without:.1} ± {error:.1}"),
+        format!("{:.1} ± {:.1}", without / plain, error / plain),
+    );
+    row("plain Rust interpreter", plain);
+    if let Some((option, ns)) = qemu {
+        row(&format!("qemu-riscv32 {option}"), ns);
+    }
+    println!();
+    println!(
+        "The search for the operation takes {find:.1} ns, {:.0}% of the in-order run.",
+        100.0 * find / reference
+    );
+}
+
+fn write_program(path: &Path, bytes: &[u8]) {
+    fs::write(path, bytes).expect("the folder can be written");
+    fs::set_permissions(path, fs::Permissions::from_mode(0o755)).expect("the mode can be set");
+}
+
+fn program(hex: &str) -> Vec<u8> {
+    hex.lines()
+        .flat_map(|line| {
+            u32::from_str_radix(line, 16)
+                .expect("a word a line")
+                .to_le_bytes()
+        })
+        .collect()
+}
+
+fn main() {
+    let room = PathBuf::from(std::env::args().nth(1).expect("usage: benchmark FOLDER"));
+    let exit = room.join("exit.elf");
+    let code: Vec<u8> = qemu::EXIT
+        .iter()
+        .flat_map(|word| word.to_le_bytes())
+        .collect();
+    write_program(&exit, &qemu::elf(&code, &[0; DATA]));
+    let qemu = qemu::option(&exit).map(|option| Qemu { option, exit });
+    if qemu.is_none() {
+        println!("qemu-riscv32 is left out: not installed, or without an option for one instruction a block.");
+    }
+    // the memory loop starts from bytes of every kind
+    let mixed: Vec<u8> = (0..DATA).map(|k| (k * 181 + (k >> 8) * 59) as u8).collect();
+    measure(
+        "compute",
+        &program(include_str!("compute.hex")),
+        &[0; DATA],
+        &room,
+        qemu.as_ref(),
+    );
+    measure(
+        "memory",
+        &program(include_str!("memory.hex")),
+        &mixed,
+        &room,
+        qemu.as_ref(),
+    );
+}
