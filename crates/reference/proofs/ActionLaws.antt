@@ -1,8 +1,9 @@
 -- The code's tables and numbers against the actions.
 use Prim.Native.Nat.{ℕ, zero, suc, _≤_, _<_}
-use mathlib.Core.Path.{_≡_, refl, sym, ap, _∙_}
+use mathlib.Core.Path.{_≡_, refl, sym, ap, subst, _∙_}
 use mathlib.Core.Bool.{Bool, true, false, not, _&&_, _||_}
 use mathlib.Core.List.{List, [], _∷_}
+use mathlib.Core.Logic.{_⊎_, inl, inr, ⊎-elim}
 use native.Mathlib.Omega.{arith}
 use borrow.Author.Tests.{leb-true, le-leb, eq-eqb}
 use lib.Dec.{T, leb, eqb}
@@ -11,7 +12,7 @@ use Rattle.laws.proofs.Bools.{and-left, and-right, implied, true-of}
 use Rattle.laws.proofs.Lists.{getD-within}
 use Rattle.laws.proofs.Table.{at}
 use Rattle.reference.specs.Actions.{Alu, ADD, SUB, SLL, SLT, SLTU, XOR, SRL, SRA, OR, AND, Condition, EQ, NE, LT, GE, LTU, GEU, Computation, Upper, UpperAddress, Jump, JumpRegister, Branch, Immediate, Register, Action, Computes, LoadsSigned, LoadsUnsigned, Stores, Stops, actions, actionOf}
-use Rattle.reference.specs.Codes.{aluCode, aluAt, conditionCode, conditionAt, class, kind, actionAt, classes, kinds}
+use Rattle.reference.specs.Codes.{aluCode, aluAt, conditionCode, conditionAt, class, kind, actionAt, classes, kinds, Sized}
 
 alu-code : (f : Alu) → aluAt (aluCode f) ≡ f
 alu-code ADD = refl
@@ -62,16 +63,26 @@ action-at operation h =
 pub action-of : (operation class kind : ℕ) → operation < 40 → class ≡ getD classes operation 0 → kind ≡ getD kinds operation 0 → actionAt class kind ≡ actionOf operation
 action-of operation class kind h c k = ap (λ (x : ℕ). actionAt x kind) c ∙ ap (λ (x : ℕ). actionAt (getD classes operation 0) x) k ∙ action-at operation h
 
--- the action of a class, where the class is known
-module _ (operation c k : ℕ) (h : operation < 40) (hc : c ≡ getD classes operation 0) (hk : k ≡ getD kinds operation 0) where
-  pub loads-signed : c ≡ 8 → actionOf operation ≡ LoadsSigned k
-  loads-signed e = sym (action-of operation c k h hc hk) ∙ ap (λ (x : ℕ). actionAt x k) e
+-- a number is the class of its action, or no class at all
+code-class : (c kind : ℕ) → (class (actionAt c kind) ≡ c) ⊎ (class (actionAt c kind) ≡ 0)
+code-class zero kind = inl refl
+code-class (suc zero) kind = inl refl
+code-class (suc (suc zero)) kind = inl refl
+code-class (suc (suc (suc zero))) kind = inl refl
+code-class (suc (suc (suc (suc zero)))) kind = inl refl
+code-class (suc (suc (suc (suc (suc zero))))) kind = inl refl
+code-class (suc (suc (suc (suc (suc (suc zero)))))) kind = inl refl
+code-class (suc (suc (suc (suc (suc (suc (suc zero))))))) kind = inl refl
+code-class (suc (suc (suc (suc (suc (suc (suc (suc zero)))))))) kind = inl refl
+code-class (suc (suc (suc (suc (suc (suc (suc (suc (suc zero))))))))) kind = inl refl
+code-class (suc (suc (suc (suc (suc (suc (suc (suc (suc (suc zero)))))))))) kind = inl refl
+code-class (suc (suc (suc (suc (suc (suc (suc (suc (suc (suc (suc n))))))))))) kind = inr refl
 
-  pub loads-unsigned : c ≡ 9 → actionOf operation ≡ LoadsUnsigned k
-  loads-unsigned e = sym (action-of operation c k h hc hk) ∙ ap (λ (x : ℕ). actionAt x k) e
+pub of-class : (c kind k : ℕ) → (k ≡ 0 → ⊥) → class (actionAt c kind) ≡ k → c ≡ k
+of-class c kind k h e = ⊎-elim (λ p. sym p ∙ e) (λ p. absurd (h (sym e ∙ p))) (code-class c kind)
 
-  pub stores : c ≡ 10 → actionOf operation ≡ Stores k
-  stores e = sym (action-of operation c k h hc hk) ∙ ap (λ (x : ℕ). actionAt x k) e
+pub stores : (operation c k : ℕ) → operation < 40 → c ≡ getD classes operation 0 → k ≡ getD kinds operation 0 → c ≡ 10 → actionOf operation ≡ Stores k
+stores operation c k h hc hk e = sym (action-of operation c k h hc hk) ∙ ap (λ (x : ℕ). actionAt x k) e
 
 -- the sizes of loads and stores
 abbrev sized : ℕ → ℕ → Bool
@@ -79,10 +90,6 @@ sized operation class = (not (leb 8 class) || leb 1 (getD kinds operation 0) && 
 
 sized-at : (operation : ℕ) → operation < 40 → T (sized operation (getD classes operation 0))
 sized-at operation h = at sized classes tt operation h
-
-pub record Sized (class kind : ℕ) : Type 0 where
-  pub some : 7 < class → (0 < kind) × (kind ≤ 4)
-  pub signed : class ≡ 8 → kind < 4
 
 sized-says : (class kind : ℕ) → T ((not (leb 8 class) || leb 1 kind && leb kind 4) && (not (eqb class 8) || leb kind 3)) → Sized class kind
 sized-says class kind t =
@@ -106,6 +113,10 @@ above n l n6 n7 n8 n9 n10 = omega arith
 
 nine : (n : ℕ) → 5 ≤ n → (n ≡ 5 → ⊥) → (n ≡ 6 → ⊥) → (n ≡ 7 → ⊥) → (n ≡ 8 → ⊥) → 9 ≤ n
 nine n l n5 n6 n7 n8 = omega arith
+
+-- the same of numbers that were read from the tables
+pub sized-read : (operation class kind : ℕ) → operation < 40 → class ≡ getD classes operation 0 → kind ≡ getD kinds operation 0 → Sized class kind
+sized-read operation class kind h c k = subst (λ (x : ℕ). Sized x kind) (sym c) (subst (λ (x : ℕ). Sized (getD classes operation 0) x) (sym k) (sized-of operation h))
 
 -- numbers that name nothing stand for the last
 module _ (n : ℕ) (n0 : n ≡ 0 → ⊥) (n1 : n ≡ 1 → ⊥) (n2 : n ≡ 2 → ⊥) (n3 : n ≡ 3 → ⊥) (n4 : n ≡ 4 → ⊥) where

@@ -14,7 +14,7 @@ use Rattle.isa.specs.Reads.{choose}
 use Rattle.isa.specs.declared.Instruction.{Instruction}
 use Rattle.reference.specs.Actions.{Computation, Action, Computes, LoadsSigned, LoadsUnsigned, Stores, Stops, actionOf}
 use Rattle.reference.specs.Codes.{class}
-use Rattle.reference.specs.Memory.{accessible, effective, signExtended, secondBy, secondValue, storedBy, stored, endsWithinBy, storeEndsWithin}
+use Rattle.reference.specs.Memory.{accessible, effective, signExtended, secondBy, storedBy, endsWithinBy, storeEndsWithin}
 
 -- an access stays within the length
 pub access-room : (len address size : ℕ) → accessible len address size ≡ true → address + size ≤ len
@@ -24,16 +24,15 @@ access-room len address size e = leb-true (address + size) len (and-right (eqb (
 within : (len address size k : ℕ) → accessible len address size ≡ true → k < address + size → k < len
 within len address size k e h = let r = access-room len address size e in omega arith
 
-module _ (i : Instruction) (first second : ℕ) (memory : List ℕ) where
-  pub second-signed : (size : ℕ) → actionOf (i .operation) ≡ LoadsSigned size
-      → secondBy (LoadsSigned size) (length memory) (effective i first) 0 (byteOf memory) ≡ secondValue i first second memory
+-- a load's value does not depend on the operand
+module _ (a : Action) (size len address second : ℕ) (byte : ℕ → ℕ) where
+  pub second-signed : a ≡ LoadsSigned size → secondBy (LoadsSigned size) len address 0 byte ≡ secondBy a len address second byte
   unfolding secondBy
-  second-signed size e = rw e
+  second-signed e = rw e
 
-  pub second-unsigned : (size : ℕ) → actionOf (i .operation) ≡ LoadsUnsigned size
-      → secondBy (LoadsUnsigned size) (length memory) (effective i first) 0 (byteOf memory) ≡ secondValue i first second memory
+  pub second-unsigned : a ≡ LoadsUnsigned size → secondBy (LoadsUnsigned size) len address 0 byte ≡ secondBy a len address second byte
   unfolding secondBy
-  second-unsigned size e = rw e
+  second-unsigned e = rw e
 
 pub second-other : (a : Action) (len address second : ℕ) (byte : ℕ → ℕ) → (class a ≡ 8 → ⊥) → (class a ≡ 9 → ⊥) → secondBy a len address second byte ≡ second
 unfolding secondBy

@@ -1,6 +1,7 @@
 -- The actions' numbers in code: a class and, within it, a condition, a size, an arithmetic function or a cause. Nothing that a buyer cites depends on these numbers.
 use mathlib.Core.List.{List, [], _∷_, map}
-use Prim.Native.Nat.{ℕ}
+use Prim.Native.Nat.{ℕ, _≤_, _<_}
+use mathlib.Core.Path.{_≡_}
 use lib.ListN.{getD}
 use Rattle.reference.specs.Actions.{Alu, ADD, SUB, SLL, SLT, SLTU, XOR, SRL, SRA, OR, AND, Condition, EQ, NE, LT, GE, LTU, GEU, Computation, Upper, UpperAddress, Jump, JumpRegister, Branch, Immediate, Register, Action, Computes, LoadsSigned, LoadsUnsigned, Stores, Stops, actions}
 
@@ -78,3 +79,8 @@ classes = map class actions
 
 abbrev pub kinds : List ℕ
 kinds = map kind actions
+
+-- the sizes of loads and stores: 1 to 4 bytes, of a signed load fewer than 4
+pub record Sized (class kind : ℕ) : Type 0 where
+  pub some : 7 < class → (0 < kind) × (kind ≤ 4)
+  pub signed : class ≡ 8 → kind < 4

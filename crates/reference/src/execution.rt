@@ -70,7 +70,8 @@ fn accesses(length: usize, size: u8, cause: u8, address: u32, at: u32, result: u
     }
 }
 
-fn perform(
+// what an action comes to; c is the constant as a word
+pub fn perform(
     class: u8,
     kind: u8,
     length: usize,

@@ -3,6 +3,7 @@ ghost use Prim.Native.Nat.{_+_, _<_, _≤_};
 ghost use lib.ListN.{length};
 ghost use Rattle.word.specs.Bytes.{byteOf};
 ghost use Rattle.reference.specs.Actions.{LoadsSigned, LoadsUnsigned};
+ghost use Rattle.reference.specs.Codes.{actionAt, Sized};
 ghost use Rattle.reference.specs.Memory as Memory;
 use crate::actions;
 use isa::Instruction;
@@ -48,20 +49,41 @@ fn load_unsigned(data: &[u8], address: u32, size: u8) -> u32
     word::load(data, address as usize, size as usize)
 }
 
-// The second value that an instruction reads: what a load finds in the data, else the operand's.
+// the second value of an action: what a load finds in the data, else the operand's
+pub fn second_by(class: u8, size: u8, data: &[u8], address: u32, second: u32) -> u32
+    requires { ⌜ Sized class size ⌝ }
+    ensures { λ r. ⌜ r ≡ Memory.secondBy (actionAt class size) (length (now («data» .entry))) address second (byteOf (now («data» .entry))) ⌝ }
+{
+    if class == 8 {
+        return load_signed(data, address, size);
+    }
+    if class == 9 {
+        return load_unsigned(data, address, size);
+    }
+    second
+}
+
+// The second value that an instruction reads.
 pub fn second_value(i: Instruction, data: &[u8], first: u32, second: u32) -> u32
     requires { ⌜ i .operation < 40 ⌝ }
     ensures { λ r. ⌜ r ≡ Memory.secondValue i first second (now («data» .entry)) ⌝ }
 {
     let operation = i.operation as usize;
     let class = actions::class(operation);
-    if class == 8 {
-        return load_signed(data, effective(i, first), actions::kind(operation));
+    let size = actions::kind(operation);
+    second_by(class, size, data, effective(i, first), second)
+}
+
+// the data after an action: a store writes them, others leave them
+pub fn store_by(class: u8, size: u8, data: &mut [u8], address: u32, second: u32)
+    requires { ⌜ Sized class size ⌝ }
+    ensures { λ r. ⌜ now («data» .exit) ≡ Memory.storedBy (actionAt class size) address second (now («data» .entry)) ⌝ }
+{
+    if class == 10 {
+        if accessible(data.len(), address, size) {
+            word::store(data, address as usize, size as usize, second);
+        }
     }
-    if class == 9 {
-        return load_unsigned(data, effective(i, first), actions::kind(operation));
-    }
-    second
 }
 
 // The data after a store; other instructions leave them.
@@ -70,13 +92,9 @@ pub fn store(i: Instruction, data: &mut [u8], first: u32, second: u32)
     ensures { λ r. ⌜ now («data» .exit) ≡ Memory.stored i first second (now («data» .entry)) ⌝ }
 {
     let operation = i.operation as usize;
-    if actions::class(operation) == 10 {
-        let size = actions::kind(operation);
-        let address = effective(i, first);
-        if accessible(data.len(), address, size) {
-            word::store(data, address as usize, size as usize, second);
-        }
-    }
+    let class = actions::class(operation);
+    let size = actions::kind(operation);
+    store_by(class, size, data, effective(i, first), second);
 }
 
 // whether a store's bytes stay within the length; other instructions have none

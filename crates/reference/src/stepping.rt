@@ -6,6 +6,7 @@ use crate::Advance;
 use crate::Fetching;
 use crate::Stepped;
 use crate::Stop;
+use crate::actions;
 use crate::execution;
 use crate::lengths;
 use crate::memory;
@@ -13,18 +14,24 @@ use crate::program;
 use crate::registers;
 use isa::Instruction;
 
-// one instruction on lent registers and data; a stop leaves them
+// one instruction on lent registers and data; a stop leaves them. The action is looked up once, since an indexed const table is
+// built anew at each use.
 fn make(i: Instruction, data: &mut [u8], registers: &mut [u32; 32], address: u32) -> Advance
     requires { ⌜ (i .operation < 40) × (i .rs1 < 32) × (i .rs2 < 32) × (i .rd < 32) × (length (now registers) ≡ 32) ⌝ }
     ensures { λ r. ⌜ Step.stepWith i (Step.state (now (registers .entry)) address (now («data» .entry))) ≡ Step.reached (now (registers .exit)) (r .address) (now («data» .exit)) (r .stop) ⌝ }
 {
+    let operation = i.operation as usize;
+    let class = actions::class(operation);
+    let kind = actions::kind(operation);
+    let constant = word::to_word(i.constant);
     let first = registers::read(registers, i.rs1);
     let operand = registers::read(registers, i.rs2);
-    let second = memory::second_value(i, data, first, operand);
-    let outcome = execution::execute(data.len(), i, address, first, second);
+    let at = word::add(first, constant);
+    let second = memory::second_by(class, kind, data, at, operand);
+    let outcome = execution::perform(class, kind, data.len(), address, constant, first, second);
     let stop = outcome.stop;
     if stop.cause == 0 {
-        memory::store(i, data, first, second);
+        memory::store_by(class, kind, data, at, second);
         registers::write(registers, i.rd, outcome.result);
     }
     Advance {
