@@ -10,6 +10,7 @@ use crate::actions;
 use crate::execution;
 use crate::lengths;
 use crate::memory;
+use crate::operands;
 use crate::program;
 use crate::registers;
 use isa::Instruction;
@@ -24,15 +25,15 @@ fn make(i: Instruction, data: &mut [u8], registers: &mut [u32; 32], address: u32
     let class = actions::class(operation);
     let kind = actions::kind(operation);
     let constant = word::to_word(i.constant);
-    let first = registers::read(registers, i.rs1);
-    let operand = registers::read(registers, i.rs2);
+    let first = registers::read(registers, operands::first_source(i));
+    let operand = registers::read(registers, operands::second_source(i));
     let at = word::add(first, constant);
     let second = memory::second_by(class, kind, data, at, operand);
     let outcome = execution::perform(class, kind, data.len(), address, constant, first, second);
     let stop = outcome.stop;
     if stop.cause == 0 {
         memory::store_by(class, kind, data, at, second);
-        registers::write(registers, i.rd, outcome.result);
+        registers::write(registers, operands::destination_of(i), outcome.result);
     }
     Advance {
         address: outcome.next,
