@@ -4,7 +4,7 @@ use mathlib.Core.Path.{_≡_, refl, sym, ap, _∙_}
 use mathlib.Core.Bool.{Bool, true, false}
 use mathlib.Core.List.{List, [], _∷_}
 use borrow.Author.Tests.{eq-eqb, ne-eqb}
-use lib.ListN.{length, getD, set, List·getD-eq-default}
+use lib.ListN.{length, getD, set, length-set, List·getD-eq-default}
 use lib.Dec.{eqb}
 use lib.Seq.{set-out, getD-set-same, getD-set-other}
 use Rattle.isa.specs.Reads.{choose}
@@ -62,3 +62,11 @@ look-cleared table n = at (eqb n 0)
     at : (a : Bool) → choose a 0 (getD (choose a table (set table n 0)) n 0) ≡ 0
     at true = refl
     at false = cleared table n
+
+pub store-length : {A : Type 0} (table : List A) (n : ℕ) (value : A) → length (storeUnder table n value) ≡ length table
+unfolding storeUnder
+store-length table n value = at (eqb n 0)
+  where
+    at : (b : Bool) → length (choose b table (set table n value)) ≡ length table
+    at true = refl
+    at false = length-set table n value

@@ -4,3 +4,4 @@ pub mod SetUpLaws
 pub mod FreshLaws
 pub mod RangeLaws
 pub mod FreshInRange
+pub mod DropLaws

@@ -2,4 +2,5 @@
 pub mod Machine
 pub mod SetUp
 pub mod Range
+pub mod Drop
 pub mod Statement

@@ -1,4 +1,5 @@
 // The Window level: a renaming core driven call by call.
+pub mod dropping;
 pub mod range;
 pub mod setting;
 
