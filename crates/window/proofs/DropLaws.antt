@@ -1,5 +1,5 @@
 -- A drop, put together from what the tables' functions leave.
-use Prim.Native.Nat.{ℕ, suc, _+_, _-_, _≤_, _<_}
+use Prim.Native.Nat.{ℕ, suc, _-_, _≤_, _<_}
 use mathlib.Core.Path.{_≡_, refl, sym, ap, _∙_}
 use mathlib.Core.Bool.{Bool, not}
 use mathlib.Core.List.{List}
@@ -11,7 +11,7 @@ use Rattle.tables.specs.FreeList.{freedHead, freedLink}
 use Rattle.tables.specs.Entry.{emptyEntry, held}
 use Rattle.tables.specs.declared.Entry.{Entry}
 use Rattle.window.specs.declared.Machine.{Machine}
-use Rattle.window.specs.Drop.{dropYoungest, dropMany, dropAfter}
+use Rattle.window.specs.Drop.{dropYoungest, dropMany, dropTo}
 
 abbrev pub youngest : Machine → Entry
 youngest m = getD (m .entries) (m .count - 1) emptyEntry
@@ -59,12 +59,12 @@ unfolding dropYoungest
 drop-count m = refl
 
 -- dropping goes on, or is done
-pub drop-more : (position : ℕ) (m : Machine) → position + 1 < m .count → dropAfter position (dropYoungest m) ≡ dropAfter position m
+pub drop-more : (kept : ℕ) (m : Machine) → kept < m .count → dropTo kept (dropYoungest m) ≡ dropTo kept m
 unfolding dropMany
-drop-more position m h =
-    let n : m .count - (position + 1) ≡ suc (m .count - 1 - (position + 1)) = omega arith in
-    ap (λ (k : ℕ). dropMany (k - (position + 1)) (dropYoungest m)) (drop-count m) ∙ ap (λ (k : ℕ). dropMany k m) (sym n)
+drop-more kept m h =
+    let n : m .count - kept ≡ suc (m .count - 1 - kept) = omega arith in
+    ap (λ (k : ℕ). dropMany (k - kept) (dropYoungest m)) (drop-count m) ∙ ap (λ (k : ℕ). dropMany k m) (sym n)
 
-pub drop-done : (position : ℕ) (m : Machine) → m .count ≤ position + 1 → dropAfter position m ≡ m
+pub drop-done : (kept : ℕ) (m : Machine) → m .count ≤ kept → dropTo kept m ≡ m
 unfolding dropMany
-drop-done position m h = let n : m .count - (position + 1) ≡ 0 = omega arith in ap (λ (k : ℕ). dropMany k m) n
+drop-done kept m h = let n : m .count - kept ≡ 0 = omega arith in ap (λ (k : ℕ). dropMany k m) n

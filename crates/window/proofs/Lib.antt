@@ -5,3 +5,4 @@ pub mod FreshLaws
 pub mod RangeLaws
 pub mod FreshInRange
 pub mod DropLaws
+pub mod ReportLaws

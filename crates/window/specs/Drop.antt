@@ -1,5 +1,5 @@
 -- "Drop, youngest first: the entry's register, then its name, are freed; the previous name returns, with register and valid bit from the physical map."
-use Prim.Native.Nat.{ℕ, zero, suc, _+_, _-_}
+use Prim.Native.Nat.{ℕ, zero, suc, _-_}
 use mathlib.Core.Bool.{Bool, not}
 use mathlib.Core.List.{List}
 use lib.Dec.{eqb}
@@ -47,6 +47,6 @@ unfoldable pub dropMany : ℕ → Machine → Machine
 dropMany zero m = m
 dropMany (suc n) m = dropMany n (dropYoungest m)
 
--- without the entries younger than a position
-abbrev pub dropAfter : ℕ → Machine → Machine
-dropAfter position m = dropMany (m .count - (position + 1)) m
+-- the oldest entries alone, so many; the entries younger than a position are dropped where position + 1 are kept
+abbrev pub dropTo : ℕ → Machine → Machine
+dropTo kept m = dropMany (m .count - kept) m

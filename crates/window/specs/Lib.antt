@@ -3,4 +3,5 @@ pub mod Machine
 pub mod SetUp
 pub mod Range
 pub mod Drop
+pub mod Report
 pub mod Statement

@@ -33,12 +33,12 @@ impl Machine {
         self
     }
 
-    // without the entries younger than a position
-    pub fn drop_after(mut self, position: u8) -> Machine
-        requires { ⌜ (position < self .count) × (self .count ≤ 64) ⌝ }
-        ensures { λ r. ⌜ r ≡ Drop.dropAfter position self ⌝ }
+    // the oldest entries alone, so many: with position + 1 kept, all younger than the position are dropped
+    pub fn drop_to(mut self, kept: u8) -> Machine
+        requires { ⌜ self .count ≤ 64 ⌝ }
+        ensures { λ r. ⌜ r ≡ Drop.dropTo kept self ⌝ }
     {
-        while position + 1 < self.count {
+        while kept < self.count {
             self = self.drop_youngest();
         }
         self

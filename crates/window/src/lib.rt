@@ -1,6 +1,7 @@
 // The Window level: a renaming core driven call by call.
 pub mod dropping;
 pub mod range;
+pub mod reporting;
 pub mod setting;
 
 use reference::Stop;
@@ -36,5 +37,11 @@ pub struct Machine {
 // The machine after a call, with 0 or a refusal.
 pub struct Answer {
     pub machine: Machine,
+    pub number: u8,
+}
+
+// The committed registers, with 0 or refusal 5.
+pub struct Report {
+    pub registers: [u32; 32],
     pub number: u8,
 }
