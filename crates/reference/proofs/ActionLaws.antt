@@ -50,7 +50,7 @@ action-code (Stops cause) = refl
 pub class-at : (operation : ℕ) → getD classes operation 0 ≡ class (actionOf operation)
 class-at operation = List·getD-map class actions operation (Stops 1)
 
-kind-at : (operation : ℕ) → operation < 40 → getD kinds operation 0 ≡ kind (actionOf operation)
+pub kind-at : (operation : ℕ) → operation < 40 → getD kinds operation 0 ≡ kind (actionOf operation)
 kind-at operation h = getD-within kinds operation 0 1 h ∙ List·getD-map kind actions operation (Stops 1)
 
 action-at : (operation : ℕ) → operation < 40 → actionAt (getD classes operation 0) (getD kinds operation 0) ≡ actionOf operation

@@ -1,5 +1,6 @@
 -- Laws of the in-order step and run.
 pub mod ActionLaws
+pub mod RoleLaws
 pub mod MemoryLaws
 pub mod LengthLaws
 pub mod FetchLaws

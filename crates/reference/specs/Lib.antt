@@ -5,5 +5,6 @@ pub mod Execute
 pub mod Fetch
 pub mod Step
 pub mod Run
+pub mod Roles
 pub mod Statement
 pub mod Codes

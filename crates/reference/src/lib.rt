@@ -7,6 +7,7 @@ pub mod memory;
 pub mod operands;
 pub mod program;
 pub mod registers;
+pub mod roles;
 pub mod running;
 pub mod stepping;
 
