@@ -8,19 +8,28 @@ use lib.ListN.{length, getD, set, length-set, List·getD-eq-default}
 use lib.Dec.{eqb}
 use lib.Seq.{set-out, getD-set-same, getD-set-other}
 use Rattle.isa.specs.Reads.{choose}
-use Rattle.tables.specs.Table.{lookUp, storeUnder}
+use Rattle.tables.specs.Table.{lookUnder, lookUp, storeUnder}
 
-module _ (table : List ℕ) (n : ℕ) where
-  pub look-zero : n ≡ 0 → 0 ≡ lookUp table n
-  unfolding lookUp
-  look-zero e = rw (eq-eqb n 0 e)
+module _ {A : Type 0} (none : A) (table : List A) (n : ℕ) where
+  pub under-zero : n ≡ 0 → none ≡ lookUnder none table n
+  unfolding lookUnder
+  under-zero e = rw (eq-eqb n 0 e)
 
-  pub look-within : (n ≡ 0 → ⊥) → getD table n 0 ≡ lookUp table n
-  unfolding lookUp
-  look-within h = rw (ne-eqb n 0 h)
+  pub under-within : (n ≡ 0 → ⊥) → getD table n none ≡ lookUnder none table n
+  unfolding lookUnder
+  under-within h = rw (ne-eqb n 0 h)
 
-  pub look-beyond : (n ≡ 0 → ⊥) → length table ≤ n → 0 ≡ lookUp table n
-  look-beyond h l = sym (List·getD-eq-default table 0 {n = n} l) ∙ look-within h
+  pub under-beyond : (n ≡ 0 → ⊥) → length table ≤ n → none ≡ lookUnder none table n
+  under-beyond h l = sym (List·getD-eq-default table none {n = n} l) ∙ under-within h
+
+abbrev pub look-zero : (table : List ℕ) (n : ℕ) → n ≡ 0 → 0 ≡ lookUp table n
+look-zero = under-zero 0
+
+abbrev pub look-within : (table : List ℕ) (n : ℕ) → (n ≡ 0 → ⊥) → getD table n 0 ≡ lookUp table n
+look-within = under-within 0
+
+abbrev pub look-beyond : (table : List ℕ) (n : ℕ) → (n ≡ 0 → ⊥) → length table ≤ n → 0 ≡ lookUp table n
+look-beyond = under-beyond 0
 
 module _ {A : Type 0} (table : List A) (n : ℕ) (value : A) where
   pub store-zero : n ≡ 0 → table ≡ storeUnder table n value
@@ -37,7 +46,7 @@ module _ {A : Type 0} (table : List A) (n : ℕ) (value : A) where
 -- what stands under a number after a store
 module _ (table : List ℕ) (n k value : ℕ) where
   pub look-other : (k ≡ n → ⊥) → lookUp (storeUnder table n value) k ≡ lookUp table k
-  unfolding lookUp storeUnder
+  unfolding lookUnder storeUnder
   look-other h = at (eqb n 0) (eqb k 0)
     where
       at : (a b : Bool) → choose b 0 (getD (choose a table (set table n value)) k 0) ≡ choose b 0 (getD table k 0)
@@ -56,7 +65,7 @@ cleared (x ∷ xs) (suc n) = cleared xs n
 
 -- a number whose place was cleared reads 0, in the table or beyond it
 pub look-cleared : (table : List ℕ) (n : ℕ) → lookUp (storeUnder table n 0) n ≡ 0
-unfolding lookUp storeUnder
+unfolding lookUnder storeUnder
 look-cleared table n = at (eqb n 0)
   where
     at : (a : Bool) → choose a 0 (getD (choose a table (set table n 0)) n 0) ≡ 0

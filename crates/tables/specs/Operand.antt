@@ -41,3 +41,7 @@ abbrev pub valueOf : List ℕ → Operand → ℕ
 valueOf values Zero = 0
 valueOf values (Waiting n) = 0
 valueOf values (Ready n r) = lookUp values r
+
+-- "operands come from the general map (ready if valid)"; x0 is zero
+abbrev pub shownOperand : ℕ → ℕ → ℕ → Bool → Operand
+shownOperand logical name register valid = choose (eqb logical 0) Zero (choose valid (Ready name register) (Waiting name))

@@ -1,6 +1,8 @@
 ghost use mathlib.Core.Path.{_≡_};
 ghost use lib.ListN.{length};
+ghost use mathlib.Core.Bool.{_&&_};
 ghost use Rattle.tables.specs.Entry as Entries;
+ghost use Rattle.tables.specs.Operand.{isReady};
 use crate::Entry;
 use crate::Operand;
 use crate::State;
@@ -79,6 +81,117 @@ pub fn sleep(e: Entry, name: u8) -> Entry
     let left = e.left;
     let right = e.right;
     with_operands(e, operands::sleep(left, name), operands::sleep(right, name))
+}
+
+// the state, the values read, the result, the cause and the predicted next address change
+fn entry_with(
+    e: Entry,
+    state: State,
+    first: u32,
+    second: u32,
+    result: u32,
+    stop: Stop,
+    predicted: u32,
+) -> Entry
+    ensures { λ r. ⌜ r ≡ Entries.entryWith state first second result stop predicted e ⌝ }
+{
+    let instruction = e.instruction;
+    let left = e.left;
+    let right = e.right;
+    Entry {
+        instruction,
+        address: e.address,
+        predicted,
+        first,
+        second,
+        result,
+        left,
+        right,
+        destination: e.destination,
+        name: e.name,
+        previous: e.previous,
+        state,
+        stop,
+    }
+}
+
+// issued, with the values that it read
+pub fn issued(e: Entry, first: u32, second: u32) -> Entry
+    ensures { λ r. ⌜ r ≡ Entries.issuedEntry first second e ⌝ }
+{
+    let stop = e.stop;
+    entry_with(e, State::Issued, first, second, e.result, stop, e.predicted)
+}
+
+// completed with a cause: nothing else changes
+pub fn stopped(e: Entry, stop: Stop) -> Entry
+    ensures { λ r. ⌜ r ≡ Entries.stoppedEntry stop e ⌝ }
+{
+    entry_with(e, State::Completed, e.first, e.second, e.result, stop, e.predicted)
+}
+
+pub fn completed(e: Entry, result: u32) -> Entry
+    ensures { λ r. ⌜ r ≡ Entries.completedEntry result e ⌝ }
+{
+    let stop = e.stop;
+    entry_with(e, State::Completed, e.first, e.second, result, stop, e.predicted)
+}
+
+// robbed: it waits again, with zero values and result
+pub fn waiting(e: Entry) -> Entry
+    ensures { λ r. ⌜ r ≡ Entries.waitingEntry e ⌝ }
+{
+    entry_with(e, State::Waits, 0, 0, 0, Stop { cause: 0 }, e.predicted)
+}
+
+pub fn predicted(e: Entry, next: u32) -> Entry
+    ensures { λ r. ⌜ r ≡ Entries.predictedEntry next e ⌝ }
+{
+    let state = e.state;
+    let stop = e.stop;
+    entry_with(e, state, e.first, e.second, e.result, stop, next)
+}
+
+pub fn is_waiting(e: Entry) -> bool
+    ensures { λ r. ⌜ r ≡ Entries.isWaiting (e .state) ⌝ }
+{
+    let state = e.state;
+    match state {
+        State::Waits => true,
+        State::Issued => false,
+        State::Completed => false,
+    }
+}
+
+pub fn is_issued(e: Entry) -> bool
+    ensures { λ r. ⌜ r ≡ Entries.isIssued (e .state) ⌝ }
+{
+    let state = e.state;
+    match state {
+        State::Waits => false,
+        State::Issued => true,
+        State::Completed => false,
+    }
+}
+
+pub fn is_completed(e: Entry) -> bool
+    ensures { λ r. ⌜ r ≡ Entries.isCompleted (e .state) ⌝ }
+{
+    let state = e.state;
+    match state {
+        State::Waits => false,
+        State::Issued => false,
+        State::Completed => true,
+    }
+}
+
+// whether both operands are ready
+pub fn is_ready(e: Entry) -> bool
+    ensures { λ r. ⌜ r ≡ (isReady (e .left) && isReady (e .right)) ⌝ }
+{
+    let left = e.left;
+    let right = e.right;
+    operands::is_ready(left) & operands::is_ready(right)
 }
 
 // the register that an entry holds, or 0

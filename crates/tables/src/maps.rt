@@ -1,7 +1,7 @@
 // Tables by number: what stands under 0, or beyond the table, reads as 0 and is never written.
 ghost use mathlib.Core.Path.{_≡_};
 ghost use lib.ListN.{length};
-ghost use Rattle.tables.specs.Table.{lookUp, storeUnder};
+ghost use Rattle.tables.specs.Table.{lookUp, storeUnder, lookValid};
 
 // a name's register, or the next free number
 pub fn look_up(table: &[u8; 96], n: u8) -> u8
@@ -73,6 +73,17 @@ pub fn map_to(map: &mut [u8; 32], logical: u8, value: u8)
             map[at] = value;
         }
     }
+}
+
+pub fn is_valid(valid: &[bool; 32], logical: u8) -> bool
+    requires { ⌜ length (now valid) ≡ 32 ⌝ }
+    ensures { λ r. ⌜ r ≡ lookValid (now (valid .entry)) logical ⌝ }
+{
+    let at = logical as usize;
+    if at == 0 {
+        return false;
+    }
+    if at < 32 { valid[at] } else { false }
 }
 
 pub fn set_valid(valid: &mut [bool; 32], logical: u8, value: bool)

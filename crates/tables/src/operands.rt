@@ -59,3 +59,16 @@ pub fn value_of(values: &[u32; 96], operand: Operand) -> u32
         Operand::Ready(_, r) => maps::value(values, r),
     }
 }
+
+// what the general map shows of a logical register: zero for x0, ready if valid
+pub fn shown(logical: u8, name: u8, register: u8, valid: bool) -> Operand
+    ensures { λ r. ⌜ r ≡ Operands.shownOperand logical name register valid ⌝ }
+{
+    if logical == 0 {
+        return Operand::Zero;
+    }
+    if valid {
+        return Operand::Ready(name, register);
+    }
+    Operand::Waiting(name)
+}
