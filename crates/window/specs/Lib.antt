@@ -4,4 +4,10 @@ pub mod SetUp
 pub mod Range
 pub mod Drop
 pub mod Report
+pub mod Call
+pub mod Decode
+pub mod Issue
+pub mod Complete
+pub mod Commit
+pub mod Drain
 pub mod Statement
