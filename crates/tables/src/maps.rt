@@ -1,6 +1,7 @@
 // Tables by number: what stands under 0, or beyond the table, reads as 0 and is never written.
 ghost use mathlib.Core.Path.{_≡_};
 ghost use lib.ListN.{length};
+ghost use Rattle.isa.specs.Reads.{choose};
 ghost use Rattle.tables.specs.Table.{lookUp, storeUnder, lookValid};
 
 // a name's register, or the next free number
@@ -95,5 +96,24 @@ pub fn set_valid(valid: &mut [bool; 32], logical: u8, value: bool)
         if at < 32 {
             valid[at] = value;
         }
+    }
+}
+
+// a logical register's register and valid bit change where a test holds
+pub fn map_where(map: &mut [u8; 32], holds: bool, logical: u8, value: u8)
+    requires { ⌜ length (now map) ≡ 32 ⌝ }
+    ensures { λ r. ⌜ now (map .exit) ≡ choose holds (storeUnder (now (map .entry)) logical value) (now (map .entry)) ⌝ }
+{
+    if holds {
+        map_to(map, logical, value);
+    }
+}
+
+pub fn valid_where(valid: &mut [bool; 32], holds: bool, logical: u8, value: bool)
+    requires { ⌜ length (now valid) ≡ 32 ⌝ }
+    ensures { λ r. ⌜ now (valid .exit) ≡ choose holds (storeUnder (now (valid .entry)) logical value) (now (valid .entry)) ⌝ }
+{
+    if holds {
+        set_valid(valid, logical, value);
     }
 }
