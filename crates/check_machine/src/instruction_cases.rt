@@ -4,8 +4,8 @@ use crate::samples;
 use crate::samples::Case;
 use isa::Instruction;
 
-// under and over: the nearest constants of the operation's form that are out of range; odd: one that is refused for being
-// odd, where constants must be even
+// under and over: the nearest constants out of range; odd: where constants must be even an odd one between the limits,
+// otherwise a further one out of range
 struct Limits {
     rd: u8,
     rs1: u8,
