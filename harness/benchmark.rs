@@ -1,7 +1,9 @@
 //! The speed of the in-order run beside a plain Rust interpreter and, where it is installed, QEMU with one instruction
-//! a block. Started by the script `benchmark`; docs/SPEED.md says what the figures mean.
+//! a block; then of the tables. Started by the script `benchmark`; docs/SPEED.md says what the figures mean.
 mod interpreter;
+mod plain_tables;
 mod qemu;
+mod tables;
 
 use std::fs;
 use std::hint::black_box;
@@ -127,6 +129,16 @@ fn lower<const BYTES: usize>(work: &mut dyn FnMut()) {
     work();
 }
 
+/// Works `BEST_OF` times at each of four places of the stack.
+fn at_four_places(work: &mut dyn FnMut()) {
+    for _ in 0..BEST_OF {
+        lower::<16>(work);
+        lower::<1_056>(work);
+        lower::<2_096>(work);
+        lower::<3_136>(work);
+    }
+}
+
 struct Times {
     reference: f64,
     find: f64,
@@ -137,7 +149,7 @@ fn times(program: &[u8], data: &[u8]) -> Times {
     let words = words_read(program, data);
     let rounds = SAMPLE * 65_535 / WORDS as u32;
     let (mut reference, mut find, mut plain) = (Best(f64::MAX), Best(f64::MAX), Best(f64::MAX));
-    let mut each = || {
+    at_four_places(&mut || {
         let mut d = data.to_vec();
         reference.sample(|| timing::run(program, &mut d, SAMPLE).steps);
         find.sample(|| {
@@ -146,13 +158,7 @@ fn times(program: &[u8], data: &[u8]) -> Times {
         });
         d.copy_from_slice(data);
         plain.sample(|| plain_run(program, &mut d, SAMPLE).steps);
-    };
-    for _ in 0..BEST_OF {
-        lower::<16>(&mut each);
-        lower::<1_056>(&mut each);
-        lower::<2_096>(&mut each);
-        lower::<3_136>(&mut each);
-    }
+    });
     Times {
         reference: reference.0,
         find: find.0,
@@ -279,4 +285,5 @@ fn main() {
         &room,
         qemu.as_ref(),
     );
+    tables::measure();
 }

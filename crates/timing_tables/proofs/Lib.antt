@@ -1,0 +1,3 @@
+-- Laws of the benchmark's functions.
+pub mod Rounds
+pub mod Results

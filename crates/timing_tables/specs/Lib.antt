@@ -1,0 +1,4 @@
+-- The definitions that the contracts cite.
+pub mod Repeated
+pub mod Full
+pub mod Timing
