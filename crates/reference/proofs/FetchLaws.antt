@@ -4,7 +4,7 @@ use mathlib.Core.Path.{_≡_, refl, sym, ap, subst, _∙_}
 use mathlib.Core.Bool.{Bool, true, false}
 use mathlib.Core.List.{List}
 use native.Mathlib.Omega.{arith}
-use borrow.Author.Tests.{eqb-true}
+use borrow.Author.Tests.{eqb-true, eq-eqb}
 use lib.Dec.{eqb}
 use lib.ListN.{length}
 use Rattle.word.specs.Bytes.{number, byteOf}
@@ -54,3 +54,15 @@ fetched-small program address e = small-at (accessible (length program) address 
 pub found-small : (program : List ℕ) (address : ℕ) (i : Instruction) → fetchNumbers (Found i) ≡ fetchAt program address → Small i
 found-small program address i e =
     subst (λ (n : FetchNumbers). n .found ≡ true → Small (n .fields)) (sym e) (fetched-small program address) refl
+
+-- where there is no instruction there is a cause
+pub unfound-cause : (program : List ℕ) (address cause : ℕ) → noInstruction cause ≡ fetchAt program address → cause ≡ 0 → ⊥
+unfolding fetchAt
+unfound-cause program address cause e z = at (accessible (length program) address 4) e
+  where
+    n : Numbers
+    n = readOf (number (byteOf program) address 4)
+
+    at : (b : Bool) → noInstruction cause ≡ choose b (ofReading n) (noInstruction 4) → ⊥
+    at true h = impossible (ap (λ (f : FetchNumbers). f .found) h ∙ eq-eqb (n .cause) 0 (sym (ap (λ (f : FetchNumbers). f .cause) h) ∙ z))
+    at false h = let four : cause ≡ 4 = ap (λ (f : FetchNumbers). f .cause) h in absurd (omega arith)

@@ -6,3 +6,5 @@ pub mod RangeLaws
 pub mod FreshInRange
 pub mod DropLaws
 pub mod ReportLaws
+pub mod RefusalLaws
+pub mod DecodeLaws

@@ -15,13 +15,13 @@ use Rattle.window.specs.declared.Answer.{Answer}
 abbrev pub entryAt : Machine → ℕ → Entry
 entryAt m position = getD (m .entries) position emptyEntry
 
--- an entry changes, and no table does
-abbrev pub place : ℕ → Entry → Machine → Machine
-place position e m =
+-- the entries change, and no table does
+abbrev pub withEntries : List Entry → Machine → Machine
+withEntries entries m =
     record {
       setup = m .setup;
       count = m .count;
-      entries = set (m .entries) position e;
+      entries = entries;
       mapname = m .mapname;
       mapregister = m .mapregister;
       mapvalid = m .mapvalid;
@@ -35,6 +35,9 @@ place position e m =
       next = m .next;
       halt = m .halt;
     }
+
+abbrev pub place : ℕ → Entry → Machine → Machine
+place position e m = withEntries (set (m .entries) position e) m
 
 -- the first n elements of a list change alike
 unfoldable pub changeFirst : {A : Type 0} → ℕ → (A → A) → List A → List A

@@ -56,48 +56,77 @@ operandOn m r = shownOperand r (lookUp (m .mapname) r) (lookUp (m .mapregister) 
 abbrev pub nameFor : Machine → ℕ → ℕ
 nameFor m d = choose (eqb d 0) 0 (m .namehead)
 
-abbrev pub startedEntry : Machine → Instruction → ℕ → Entry
-startedEntry m i guess =
+abbrev pub waitingFor : Instruction → ℕ → ℕ → Operand → Operand → ℕ → ℕ → Entry
+waitingFor i address predicted left right name previous =
     record {
       instruction = i;
-      address = m .fetch;
-      predicted = predictedNext i (m .fetch) guess;
+      address = address;
+      predicted = predicted;
       first = 0;
       second = 0;
       result = 0;
-      left = operandOn m (firstSource i);
-      right = operandOn m (secondSource i);
+      left = left;
+      right = right;
       destination = destination i;
-      name = nameFor m (destination i);
-      previous = lookUp (m .mapname) (destination i);
+      name = name;
+      previous = previous;
       state = Waits;
       stop = stop 0;
     }
+
+abbrev pub startedEntry : Machine → Instruction → ℕ → Entry
+startedEntry m i guess =
+    waitingFor i (m .fetch) (predictedNext i (m .fetch) guess) (operandOn m (firstSource i)) (operandOn m (secondSource i)) (nameFor m (destination i))
+    (lookUp (m .mapname) (destination i))
 
 -- the entry that decode enters
 abbrev pub entryFor : Machine → FetchNumbers → ℕ → Entry
 entryFor m f guess = choose (eqb (enteringCause f) 0) (startedEntry m (f .fields) guess) (endedEntry (m .fetch) (f .fields) (enteringCause f))
 
--- an entry enters; the general map shows its name under its destination, "valid is cleared"; "Fetch goes there"
-unfoldable pub enter : Entry → Machine → Machine
-enter e m =
+-- the general map shows a name under its destination, "valid is cleared"; the pool of names is without its head where there is a destination
+abbrev pub renamed : ℕ → ℕ → Machine → Machine
+renamed d name m =
     record {
       setup = m .setup;
-      count = suc (m .count);
-      entries = set (m .entries) (m .count) e;
-      mapname = storeUnder (m .mapname) (e .destination) (e .name);
-      mapregister = storeUnder (m .mapregister) (e .destination) 0;
-      mapvalid = storeUnder (m .mapvalid) (e .destination) false;
+      count = m .count;
+      entries = m .entries;
+      mapname = storeUnder (m .mapname) d name;
+      mapregister = storeUnder (m .mapregister) d 0;
+      mapvalid = storeUnder (m .mapvalid) d false;
       physical = m .physical;
       values = m .values;
       registerhead = m .registerhead;
       registerlink = m .registerlink;
-      namehead = choose (eqb (e .destination) 0) (m .namehead) (takenHead (m .namelink) (m .namehead));
-      namelink = takenLink (m .namelink) (e .name);
+      namehead = choose (eqb d 0) (m .namehead) (takenHead (m .namelink) (m .namehead));
+      namelink = takenLink (m .namelink) name;
+      fetch = m .fetch;
+      next = m .next;
+      halt = m .halt;
+    }
+
+-- an entry enters; "Fetch goes there"
+abbrev pub appended : Entry → Machine → Machine
+appended e m =
+    record {
+      setup = m .setup;
+      count = suc (m .count);
+      entries = set (m .entries) (m .count) e;
+      mapname = m .mapname;
+      mapregister = m .mapregister;
+      mapvalid = m .mapvalid;
+      physical = m .physical;
+      values = m .values;
+      registerhead = m .registerhead;
+      registerlink = m .registerlink;
+      namehead = m .namehead;
+      namelink = m .namelink;
       fetch = e .predicted;
       next = m .next;
       halt = m .halt;
     }
+
+unfoldable pub enter : Entry → Machine → Machine
+enter e m = appended e (renamed (e .destination) (e .name) m)
 
 abbrev pub decoded : List ℕ → ℕ → Machine → Machine
 decoded program guess m = enter (entryFor m (fetchAt program (m .fetch)) guess) m
