@@ -8,3 +8,5 @@ pub mod DropLaws
 pub mod ReportLaws
 pub mod RefusalLaws
 pub mod DecodeLaws
+pub mod OperationLaws
+pub mod IssueLaws

@@ -1,6 +1,7 @@
 // The Window level: a renaming core driven call by call.
 pub mod decoding;
 pub mod dropping;
+pub mod issuing;
 pub mod lending;
 pub mod range;
 pub mod reporting;
