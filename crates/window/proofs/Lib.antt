@@ -10,3 +10,4 @@ pub mod RefusalLaws
 pub mod DecodeLaws
 pub mod OperationLaws
 pub mod IssueLaws
+pub mod CompleteLaws
