@@ -127,14 +127,30 @@ pub fn issued(e: Entry, first: u32, second: u32) -> Entry
 pub fn stopped(e: Entry, stop: Stop) -> Entry
     ensures { λ r. ⌜ r ≡ Entries.stoppedEntry stop e ⌝ }
 {
-    entry_with(e, State::Completed, e.first, e.second, e.result, stop, e.predicted)
+    entry_with(
+        e,
+        State::Completed,
+        e.first,
+        e.second,
+        e.result,
+        stop,
+        e.predicted,
+    )
 }
 
 pub fn completed(e: Entry, result: u32) -> Entry
     ensures { λ r. ⌜ r ≡ Entries.completedEntry result e ⌝ }
 {
     let stop = e.stop;
-    entry_with(e, State::Completed, e.first, e.second, result, stop, e.predicted)
+    entry_with(
+        e,
+        State::Completed,
+        e.first,
+        e.second,
+        result,
+        stop,
+        e.predicted,
+    )
 }
 
 // robbed: it waits again, with zero values and result

@@ -142,6 +142,93 @@ pub learned-is : (m : Machine) (position register result : ℕ) (done : Entry) (
 unfolding learned
 learned-is m position register result done shown following mapregister physical values registerlink mapvalid a b c d f g h i = rw (a, c, d, b, f, g, h, i)
 
+-- the victim is an entry
+victim-most : (n : ℕ) (physical : List ℕ) (entries : List Entry) (position : ℕ) → victimAmong n physical entries position ≤ position + n
+unfolding victimAmong
+victim-most zero physical entries position = omega arith
+victim-most (suc n) physical entries position = at (eqb (held physical (getD entries (position + suc n) emptyEntry)) 0) (victim-most n physical entries position)
+  where
+    at : (b : Bool) → victimAmong n physical entries position ≤ position + n → choose b (victimAmong n physical entries position) (position + suc n) ≤ position + suc n
+    at true h = omega arith
+    at false h = omega arith
+
+pub victim-within : (m : Machine) (position : ℕ) → position < m .count → victimOf m position < m .count
+victim-within m position h = omega (arith, victim-most (m .count - suc position) (m .physical) (m .entries) position)
+
+pub robbed-count : (victim : ℕ) (m : Machine) → robbed victim m .count ≡ m .count
+unfolding robbed
+robbed-count victim m = refl
+
+pub learned-count : (position register result : ℕ) (m : Machine) → learned position register result m .count ≡ m .count
+unfolding learned
+learned-count position register result m = refl
+
+-- a register for the result, in each of the ways
+module _ (position result : ℕ) (m : Machine) where
+  abbrev d : ℕ
+  d = entryAt m position .destination
+
+  pub without-register : d ≡ 0 → place position (completedEntry 0 (entryAt m position)) m ≡ registered position result m
+  without-register z = rw (eq-eqb d 0 z)
+
+  pub free-register : (d ≡ 0 → ⊥) → (m .registerhead ≡ 0 → ⊥) → learned position (m .registerhead) result m ≡ registered position result m
+  free-register z h = rw (ne-eqb d 0 z, ne-eqb (m .registerhead) 0 h)
+
+  pub stolen-register : (d ≡ 0 → ⊥) → m .registerhead ≡ 0 → learned position (held (m .physical) (entryAt m (victimOf m position))) result (robbed (victimOf m position) m) ≡ registered position result m
+  stolen-register z h = rw (ne-eqb d 0 z, eq-eqb (m .registerhead) 0 h)
+
+  supplied-count : (b : Bool) → learned position (choose b (held (m .physical) (entryAt m (victimOf m position))) (m .registerhead)) result (choose b (robbed (victimOf m position) m) m) .count ≡ m .count
+  supplied-count true = learned-count position _ result (robbed (victimOf m position) m) ∙ robbed-count (victimOf m position) m
+  supplied-count false = learned-count position _ result m
+
+  pub registered-count : registered position result m .count ≡ m .count
+  registered-count = at (eqb d 0)
+    where
+      at : (a : Bool) → choose a (place position (completedEntry 0 (entryAt m position)) m) (learned position (registerFor m position) result (suppliedFor m position)) .count ≡ m .count
+      at true = refl
+      at false = supplied-count (eqb (m .registerhead) 0)
+
+-- where the prediction was right, and where it was not
+module _ (position next : ℕ) (m : Machine) where
+  pub rightly-predicted : next ≡ entryAt m position .predicted → m ≡ redirected position next m
+  unfolding redirected
+  rightly-predicted e = rw (eq-eqb next (entryAt m position .predicted) e)
+
+  pub wrongly-predicted : (next ≡ entryAt m position .predicted → ⊥) → refetched position next (dropTo (suc position) m) ≡ redirected position next m
+  unfolding redirected
+  wrongly-predicted h = rw (ne-eqb next (entryAt m position .predicted) h)
+
+pub refetched-is : (position next : ℕ) (m k : Machine) (mended : Entry) → k ≡ m → mended ≡ predictedEntry next (entryAt k position)
+    → _≡_ {A = Machine}
+    (record {
+      setup = k .setup;
+      count = k .count;
+      entries = set (k .entries) position mended;
+      mapname = k .mapname;
+      mapregister = k .mapregister;
+      mapvalid = k .mapvalid;
+      physical = k .physical;
+      values = k .values;
+      registerhead = k .registerhead;
+      registerlink = k .registerlink;
+      namehead = k .namehead;
+      namelink = k .namelink;
+      fetch = next;
+      next = k .next;
+      halt = k .halt;
+    })
+    (refetched position next m)
+unfolding refetched
+refetched-is position next m k mended h e = rw (e, h)
+
+-- with a cause, and without
+module _ (position : ℕ) (o : Outcome) (m : Machine) where
+  pub finish-stops : (o .stop .cause ≡ 0 → ⊥) → place position (stoppedEntry (o .stop) (entryAt m position)) m ≡ finished position o m
+  finish-stops h = rw (ne-eqb (o .stop .cause) 0 h)
+
+  pub finish-goes : o .stop .cause ≡ 0 → redirected position (o .next) (registered position (o .result) m) ≡ finished position o m
+  finish-goes h = rw (eq-eqb (o .stop .cause) 0 h)
+
 -- the refusals, by the tests
 module _ (position : ℕ) (m : Machine) where
   pub refused-halted : halted m ≡ true → 10 ≡ completeRefusal position m

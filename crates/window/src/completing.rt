@@ -124,7 +124,12 @@ impl Machine {
         let done = entries::completed(e, result);
         self.entries[position] = done;
         let shown = maps::mapped(&self.mapname, e.destination);
-        maps::map_where(&mut self.mapregister, shown == e.name, e.destination, register);
+        maps::map_where(
+            &mut self.mapregister,
+            shown == e.name,
+            e.destination,
+            register,
+        );
         maps::valid_where(&mut self.mapvalid, shown == e.name, e.destination, true);
         maps::store_under(&mut self.physical, e.name, register);
         maps::store_value(&mut self.values, register, result);
@@ -132,5 +137,90 @@ impl Machine {
         let following = free_list::take(&mut self.registerlink, head);
         self.registerhead = following;
         self.wake_all(e.name, register)
+    }
+
+    // a destination gets a free register, or the victim's
+    fn registered(mut self, position: usize, result: u32) -> Machine
+        requires { ⌜ (position < self .count) × (self .count ≤ 64) ⌝ }
+        ensures { λ r. ⌜ r ≡ Complete.registered position result self ⌝ }
+    {
+        let e = self.entries[position];
+        if e.destination == 0 {
+            let done = entries::completed(e, 0);
+            self.entries[position] = done;
+            return self;
+        }
+        let head = self.registerhead;
+        if head != 0 {
+            return self.learned(position, head, result);
+        }
+        let victim = self.victim(position);
+        let owner = self.entries[victim];
+        let register = entries::held(&self.physical, owner);
+        let machine = self.robbed(victim);
+        machine.learned(position, register, result)
+    }
+
+    // where the prediction was wrong, all younger entries are dropped and fetch goes to the actual next address
+    fn redirected(self, position: usize, next: u32) -> Machine
+        requires { ⌜ (position < self .count) × (self .count ≤ 64) ⌝ }
+        ensures { λ r. ⌜ r ≡ Complete.redirected position next self ⌝ }
+    {
+        let e = self.entries[position];
+        if next == e.predicted {
+            return self;
+        }
+        let mut machine = self.drop_to((position + 1) as u8);
+        let left = machine.entries[position];
+        let mended = entries::predicted(left, next);
+        machine.entries[position] = mended;
+        machine.fetch = next;
+        machine
+    }
+
+    fn completed(mut self, position: usize) -> Machine
+        requires { ⌜ (machineInRange self ≡ true) × (position < self .count) ⌝ }
+        ensures { λ r. ⌜ r ≡ Complete.completed position self ⌝ }
+    {
+        let outcome = self.outcome_at(position);
+        let stop = outcome.stop;
+        if stop.cause != 0 {
+            let e = self.entries[position];
+            let ended = entries::stopped(e, stop);
+            self.entries[position] = ended;
+            return self;
+        }
+        let machine = self.registered(position, outcome.result);
+        machine.redirected(position, outcome.next)
+    }
+
+    // Complete, where 5 and 6 do not apply.
+    pub fn complete_within(self, position: usize) -> Answer
+        requires { ⌜ machineInRange self ≡ true ⌝ }
+        ensures { λ r. ⌜ r ≡ Complete.completeWithin position self ⌝ }
+    {
+        let number = self.complete_refusal(position);
+        if number != 0 {
+            return Answer {
+                machine: self,
+                number,
+            };
+        }
+        let machine = self.completed(position);
+        Answer { machine, number: 0 }
+    }
+
+    // The entry at a position finds its result and next address, and takes or steals a register.
+    pub fn complete(self, program: &[u8], data: &[u8], position: usize) -> Answer
+        ensures { λ r. ⌜ r ≡ Complete.completeOf (now (program .entry)) (now («data» .entry)) position self ⌝ }
+    {
+        let number = self.lent_refusal(program, data);
+        if number != 0 {
+            return Answer {
+                machine: self,
+                number,
+            };
+        }
+        self.complete_within(position)
     }
 }

@@ -200,10 +200,7 @@ impl Machine {
         }
         let e = self.entry_for(program, guess);
         let machine = self.enter(e);
-        Answer {
-            machine,
-            number: 0,
-        }
+        Answer { machine, number: 0 }
     }
 
     // The instruction at the fetch address enters the window, the guess being where a branch or JALR is thought to go.

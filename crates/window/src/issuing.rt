@@ -84,10 +84,7 @@ impl Machine {
             };
         }
         let machine = self.issued(data, position);
-        Answer {
-            machine,
-            number: 0,
-        }
+        Answer { machine, number: 0 }
     }
 
     // The entry at a position reads its operands, and a load the data.

@@ -11,55 +11,41 @@ use Rattle.window.proofs.CompleteLaws.{refused-halted, refused-place, r
 use borrow.Author.Needs.{needs}
 use Rattle.window.proofs.Machine.complete_refusal.Statement.{statement}
 use Rattle.window.proofs.Machine.complete_refusal.Tie as tie
-use Rattle.window.proofs.Machine.complete_refusal.Reads as reads
-use Rattle.window.proofs.Machine.complete_refusal.Lts as lts
-use Rattle.tables.proofs.entries.is_issued.Reads as is-issued-reads
-use Rattle.window.proofs.Machine.outcome_at.Reads as outcome-at-reads
-use Rattle.window.proofs.Machine.victim.Reads as victim-reads
 
--- src/completing.rt:82:13
 returns : tie.Need-returns
 returns c =
     let a = (c .before .before .before) .args in
     refused-halted (a .position) (a .t1) (ap not (ne-eqb _ _ (c .if1 .taken)))
 
--- src/completing.rt:84:12
 cast-if2 : tie.Need-cast-if2
 cast-if2 c = search needs
 
--- src/completing.rt:85:13
 returns-2 : tie.Need-returns-2
 returns-2 c =
     let a = (c .before .before .before .before) .args in
     refused-place (a .position) (a .t1) (ap not (eq-eqb _ _ ((c .before) .if1 .left))) (le-leb _ _ (c .if2 .taken))
 
--- src/completing.rt:87:17
 mul-e : tie.Need-mul-e
 mul-e c = search needs
 
--- src/completing.rt:87:17
 element-copy-out-e : tie.Need-element-copy-out-e
 element-copy-out-e c =
     let s = c .before .before .before .before in
     omega (arith, in-range-count (s .args .t1) (s .pre), c .if2 .left)
 
--- src/completing.rt:88:13
 is-issued-requires : tie.Need-is-issued-requires
 is-issued-requires c κs = search needs
 
--- src/completing.rt:89:13
 returns-3 : tie.Need-returns-3
 returns-3 c =
     let a = (c .before .before .before .before .before .before .before) .args in
     refused-state (a .position) (a .t1) (ap not (eq-eqb _ _ ((c .before .before .before .before) .if1 .left))) (lt-leb _ _ ((c .before .before .before) .if2 .left))
     (sym ((c .before) .is-issued .ensures) ∙ not-true _ (c .if3 .taken))
 
--- src/completing.rt:91:13
 outcome-at-requires : tie.Need-outcome-at-requires
 outcome-at-requires c κs =
     ((c .before .before .before .before .before .before .before) .pre, (c .before .before .before) .if2 .left)
 
--- src/completing.rt:95:13
 returns-4 : tie.Need-returns-4
 returns-4 c =
     let a = (c .before .before .before .before .before .before .before .before .before .before .before .before) .args in
@@ -69,13 +55,11 @@ returns-4 c =
     supplied (a .position) m (ap not (eq-eqb _ _ ((c .before .before .before .before .before .before .before .before .before) .if1 .left))) (lt-leb _ _ ((c .before .before .before .before .before .before .before .before) .if2 .left))
     (sym ((c .before .before .before .before .before .before) .is-issued .ensures) ∙ not-false _ ((c .before .before .before .before .before) .if3 .left)) (supply d (outcomeAt m (a .position) .stop .cause) (m .registerhead) true test)
 
--- src/completing.rt:97:12
 victim-requires : tie.Need-victim-requires
 victim-requires c κs =
     let s = c .before .before .before .before .before .before .before .before .before .before .before .before in
     ((c .before .before .before .before .before .before .before .before) .if2 .left, in-range-count (s .args .t1) (s .pre))
 
--- src/completing.rt:98:13
 returns-5 : tie.Need-returns-5
 returns-5 c =
     let a = (c .before .before .before .before .before .before .before .before .before .before .before .before .before .before) .args in
@@ -86,7 +70,6 @@ returns-5 c =
     (sym ((c .before .before .before .before .before .before .before .before) .is-issued .ensures) ∙ not-false _ ((c .before .before .before .before .before .before .before) .if3 .left)) (supply d (outcomeAt m (a .position) .stop .cause) (m .registerhead) false test)
     (eq-eqb (victimOf m (a .position)) (a .position) (sym ((c .before) .victim .ensures) ∙ c .if5 .taken))
 
--- src/completing.rt:76:5
 returns-6 : tie.Need-returns-6
 returns-6 c =
     let a = (c .before .before .before .before .before .before .before .before .before .before .before .before .before .before) .args in

@@ -4,16 +4,6 @@ use Rattle.window.proofs.CompleteLaws.{learned-is}
 use borrow.Author.Needs.{needs}
 use Rattle.window.proofs.Machine.learned.Statement.{statement}
 use Rattle.window.proofs.Machine.learned.Tie as tie
-use Rattle.window.proofs.Machine.learned.Reads as reads
-use Rattle.window.proofs.Machine.learned.Lts as lts
-use Rattle.tables.proofs.entries.completed.Reads as completed-reads
-use Rattle.tables.proofs.free_list.take.Reads as take-reads
-use Rattle.tables.proofs.maps.map_where.Reads as map-where-reads
-use Rattle.tables.proofs.maps.mapped.Reads as mapped-reads
-use Rattle.tables.proofs.maps.store_under.Reads as store-under-reads
-use Rattle.tables.proofs.maps.store_value.Reads as store-value-reads
-use Rattle.tables.proofs.maps.valid_where.Reads as valid-where-reads
-use Rattle.window.proofs.Machine.wake_all.Reads as wake-all-reads
 
 mapregister-long : (s : tie.Start) → length (s .args .t1 .mapregister) ≡ 32
 mapregister-long s = search needs
@@ -30,61 +20,48 @@ values-long s = search needs
 register-long : (s : tie.Start) → length (s .args .t1 .registerlink) ≡ 96
 register-long s = search needs
 
--- src/completing.rt:123:17
 mul-e : tie.Need-mul-e
 mul-e c = search needs
 
--- src/completing.rt:123:17
 element-copy-out-e : tie.Need-element-copy-out-e
 element-copy-out-e c = search needs
 
--- src/completing.rt:124:13
 completed-requires : tie.Need-completed-requires
 completed-requires c κs = search needs
 
--- src/completing.rt:125:9
 mul-done : tie.Need-mul-done
 mul-done c = search needs
 
--- src/completing.rt:125:9
 element-set-from-done : tie.Need-element-set-from-done
 element-set-from-done c = search needs
 
--- src/completing.rt:126:13
 mapped-requires : tie.Need-mapped-requires
 mapped-requires c κs = search needs
 
--- src/completing.rt:127:9
 map-where-requires : tie.Need-map-where-requires
 map-where-requires c κs =
     mapregister-long (c .before .before .before .before .before .before .before)
 
--- src/completing.rt:128:9
 valid-where-requires : tie.Need-valid-where-requires
 valid-where-requires c κs =
     mapvalid-long (c .before .before .before .before .before .before .before .before .before .before)
 
--- src/completing.rt:129:9
 store-under-requires : tie.Need-store-under-requires
 store-under-requires c κs =
     physical-long (c .before .before .before .before .before .before .before .before .before .before .before .before)
 
--- src/completing.rt:130:9
 store-value-requires : tie.Need-store-value-requires
 store-value-requires c κs =
     values-long (c .before .before .before .before .before .before .before .before .before .before .before .before .before .before)
 
--- src/completing.rt:132:13
 take-requires : tie.Need-take-requires
 take-requires c κs =
     register-long (c .before .before .before .before .before .before .before .before .before .before .before .before .before .before .before .before)
 
--- src/completing.rt:134:9
 wake-all-requires : tie.Need-wake-all-requires
 wake-all-requires c κs =
     (c .before .before .before .before .before .before .before .before .before .before .before .before .before .before .before .before .before) .pre .1
 
--- src/completing.rt:119:5
 returns : tie.Need-returns
 returns c =
     let a = (c .before .before .before .before .before .before .before .before .before .before .before .before .before .before .before .before .before .before) .args in

@@ -4,31 +4,23 @@ use Rattle.window.proofs.OperationLaws.{in-range-operation}
 use borrow.Author.Needs.{needs}
 use Rattle.window.proofs.Machine.outcome_at.Statement.{statement}
 use Rattle.window.proofs.Machine.outcome_at.Tie as tie
-use Rattle.window.proofs.Machine.outcome_at.Reads as reads
-use Rattle.window.proofs.Machine.outcome_at.Lts as lts
-use Rattle.reference.proofs.execute.Reads as execute-reads
 
--- src/completing.rt:71:17
 mul-e : tie.Need-mul-e
 mul-e c = search needs
 
--- src/completing.rt:71:17
 element-copy-out-e : tie.Need-element-copy-out-e
 element-copy-out-e c =
     let s = c .before in
     omega (arith, in-range-count (s .args .t1) (s .pre .0), s .pre .1)
 
--- src/completing.rt:73:28
 cast-execute : tie.Need-cast-execute
 cast-execute c = search needs
 
--- src/completing.rt:73:9
 execute-requires : tie.Need-execute-requires
 execute-requires c κs =
     let s = c .before .before .before .before in
     in-range-operation (s .args .t1) (s .args .position) (s .pre .0) (s .pre .1)
 
--- src/completing.rt:66:5
 returns : tie.Need-returns
 returns c = search needs
 

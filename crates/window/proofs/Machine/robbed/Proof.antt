@@ -4,14 +4,6 @@ use Rattle.window.proofs.CompleteLaws.{robbed-is}
 use borrow.Author.Needs.{needs}
 use Rattle.window.proofs.Machine.robbed.Statement.{statement}
 use Rattle.window.proofs.Machine.robbed.Tie as tie
-use Rattle.window.proofs.Machine.robbed.Reads as reads
-use Rattle.window.proofs.Machine.robbed.Lts as lts
-use Rattle.tables.proofs.entries.waiting.Reads as waiting-reads
-use Rattle.tables.proofs.maps.map_where.Reads as map-where-reads
-use Rattle.tables.proofs.maps.mapped.Reads as mapped-reads
-use Rattle.tables.proofs.maps.store_under.Reads as store-under-reads
-use Rattle.tables.proofs.maps.valid_where.Reads as valid-where-reads
-use Rattle.window.proofs.Machine.sleep_all.Reads as sleep-all-reads
 
 mapregister-long : (s : tie.Start) → length (s .args .t1 .mapregister) ≡ 32
 mapregister-long s = search needs
@@ -22,50 +14,39 @@ mapvalid-long s = search needs
 physical-long : (s : tie.Start) → length (s .args .t1 .physical) ≡ 96
 physical-long s = search needs
 
--- src/completing.rt:108:17
 mul-e : tie.Need-mul-e
 mul-e c = search needs
 
--- src/completing.rt:108:17
 element-copy-out-e : tie.Need-element-copy-out-e
 element-copy-out-e c = search needs
 
--- src/completing.rt:109:13
 waiting-requires : tie.Need-waiting-requires
 waiting-requires c κs = search needs
 
--- src/completing.rt:110:9
 mul-again : tie.Need-mul-again
 mul-again c = search needs
 
--- src/completing.rt:110:9
 element-set-from-again : tie.Need-element-set-from-again
 element-set-from-again c = search needs
 
--- src/completing.rt:111:13
 mapped-requires : tie.Need-mapped-requires
 mapped-requires c κs = search needs
 
--- src/completing.rt:112:9
 map-where-requires : tie.Need-map-where-requires
 map-where-requires c κs =
     mapregister-long (c .before .before .before .before .before .before .before)
 
--- src/completing.rt:113:9
 valid-where-requires : tie.Need-valid-where-requires
 valid-where-requires c κs =
     mapvalid-long (c .before .before .before .before .before .before .before .before .before .before)
 
--- src/completing.rt:114:9
 store-under-requires : tie.Need-store-under-requires
 store-under-requires c κs =
     physical-long (c .before .before .before .before .before .before .before .before .before .before .before .before)
 
--- src/completing.rt:115:9
 sleep-all-requires : tie.Need-sleep-all-requires
 sleep-all-requires c κs = search needs
 
--- src/completing.rt:104:5
 returns : tie.Need-returns
 returns c =
     let a = (c .before .before .before .before .before .before .before .before .before .before .before .before .before .before) .args in

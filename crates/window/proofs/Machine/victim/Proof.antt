@@ -6,9 +6,6 @@ use Rattle.window.specs.Complete.{victimAmong, victimOf}
 use Rattle.window.proofs.CompleteLaws.{found-at, passed-at, none-at}
 use Rattle.window.proofs.Machine.victim.Statement.{statement}
 use Rattle.window.proofs.Machine.victim.Tie as tie
-use Rattle.window.proofs.Machine.victim.Reads as reads
-use Rattle.window.proofs.Machine.victim.Lts as lts
-use Rattle.tables.proofs.entries.held.Reads as held-reads
 
 abbrev Inv-loop : tie.InvT-loop
 Inv-loop position self k₀ k = (position ≤ k) × (k < self .count) × (victimAmong (k - position) (self .physical) (self .entries) position ≡ victimOf self position)
@@ -16,17 +13,14 @@ Inv-loop position self k₀ k = (position ≤ k) × (k < self .count) × (victim
 abbrev μ-loop : tie.MeasureT-loop
 μ-loop position self k₀ k = k
 
--- src/completing.rt:53:21
 cast-k : tie.Need-cast-k Inv-loop μ-loop
 cast-k c = search needs
 
--- src/completing.rt:53:21
 sub-k : tie.Need-sub-k Inv-loop μ-loop
 sub-k c =
     let below = c .pre .0 in
     omega arith
 
--- src/completing.rt:54:9
 loop-holds : tie.Need-loop-holds Inv-loop μ-loop
 loop-holds c =
     let a = c .args in
@@ -34,7 +28,6 @@ loop-holds c =
     let same : a .t1 .count - 1 - a .position ≡ a .t1 .count - suc (a .position) = omega arith in
     (omega arith, omega arith, ap (λ (n : ℕ). victimAmong n (a .t1 .physical) (a .t1 .entries) (a .position)) same)
 
--- src/completing.rt:58:21
 mul-e : tie.Need-mul-e Inv-loop μ-loop
 mul-e c =
     let l = (c .before) .loop in
@@ -42,7 +35,6 @@ mul-e c =
     let inside = l .inv .1 in
     omega arith
 
--- src/completing.rt:58:21
 element-copy-out-e : tie.Need-element-copy-out-e Inv-loop μ-loop
 element-copy-out-e c =
     let l = (c .before) .loop in
@@ -50,23 +42,19 @@ element-copy-out-e c =
     let inside = l .inv .1 in
     omega arith
 
--- src/completing.rt:59:16
 held-requires : tie.Need-held-requires Inv-loop μ-loop
 held-requires c κs = search needs
 
--- src/completing.rt:62:13
 sub-k-2 : tie.Need-sub-k-2 Inv-loop μ-loop
 sub-k-2 c =
     let above = (c .before .before .before .before .before) .if1 .left in
     omega arith
 
--- src/completing.rt:54:9
 loop-less : tie.Need-loop-less Inv-loop μ-loop
 loop-less c =
     let above = (c .before .before .before .before .before) .if1 .left in
     omega arith
 
--- src/completing.rt:54:9
 loop-again : tie.Need-loop-again Inv-loop μ-loop
 loop-again c =
     let a = (c .before .before .before .before .before .before .before) .args in
@@ -75,14 +63,12 @@ loop-again c =
     let inside = l .inv .1 in
     (omega arith, omega arith, sym (passed-at (a .t1 .physical) (a .t1 .entries) (a .position) (l .k) above (sym ((c .before) .held .ensures) ∙ c .if2 .left)) ∙ l .inv .2)
 
--- src/completing.rt:49:5
 returns : tie.Need-returns Inv-loop μ-loop
 returns c =
     let a = (c .before .before) .args in
     let l = (c .before) .loop in
     sym (none-at (a .t1 .physical) (a .t1 .entries) (a .position) (l .k) (c .if1 .taken)) ∙ l .inv .2
 
--- src/completing.rt:49:5
 returns-2 : tie.Need-returns-2 Inv-loop μ-loop
 returns-2 c =
     let a = (c .before .before .before .before .before .before .before) .args in

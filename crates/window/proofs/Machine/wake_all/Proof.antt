@@ -10,9 +10,6 @@ use Rattle.window.specs.Call.{withEntries, changeFirst}
 use Rattle.window.proofs.CompleteLaws.{change-none, change-turn}
 use Rattle.window.proofs.Machine.wake_all.Statement.{statement}
 use Rattle.window.proofs.Machine.wake_all.Tie as tie
-use Rattle.window.proofs.Machine.wake_all.Reads as reads
-use Rattle.window.proofs.Machine.wake_all.Lts as lts
-use Rattle.tables.proofs.entries.wake.Reads as wake-reads
 
 abbrev Inv-loop : tie.InvT-loop
 Inv-loop name register self₀ count k₀ self k = (k ≤ count) × (self ≡ withEntries (changeFirst k (wakeEntry name register) (self₀ .entries)) self₀)
@@ -20,62 +17,52 @@ Inv-loop name register self₀ count k₀ self k = (k ≤ count) × (self ≡ wi
 abbrev μ-loop : tie.MeasureT-loop
 μ-loop name register self₀ count k₀ self k = count - k
 
--- src/completing.rt:21:21
 cast-count : tie.Need-cast-count Inv-loop μ-loop
 cast-count c = search needs
 
--- src/completing.rt:23:9
 loop-holds : tie.Need-loop-holds Inv-loop μ-loop
 loop-holds c =
     let s = c in
     (omega arith, ap (λ (entries : List Entry). withEntries entries (s .args .t1)) (change-none (wakeEntry (s .args .name) (s .args .register)) (s .args .t1 .entries)))
 
--- src/completing.rt:24:21
 mul-e : tie.Need-mul-e Inv-loop μ-loop
 mul-e c =
     let most = (c .before .before) .pre in
     let below = c .loop-test .taken in
     omega arith
 
--- src/completing.rt:24:21
 element-copy-out-e : tie.Need-element-copy-out-e Inv-loop μ-loop
 element-copy-out-e c =
     let most = (c .before .before) .pre in
     let below = c .loop-test .taken in
     omega arith
 
--- src/completing.rt:25:17
 wake-requires : tie.Need-wake-requires Inv-loop μ-loop
 wake-requires c κs = search needs
 
--- src/completing.rt:26:13
 mul-woken : tie.Need-mul-woken Inv-loop μ-loop
 mul-woken c =
     let most = (c .before .before .before .before) .pre in
     let below = (c .before .before) .loop-test .taken in
     omega arith
 
--- src/completing.rt:26:13
 element-set-from-woken : tie.Need-element-set-from-woken Inv-loop μ-loop
 element-set-from-woken c =
     let most = (c .before .before .before .before) .pre in
     let below = (c .before .before) .loop-test .taken in
     omega arith
 
--- src/completing.rt:27:13
 add-k : tie.Need-add-k Inv-loop μ-loop
 add-k c =
     let most = (c .before .before .before .before) .pre in
     let below = (c .before .before) .loop-test .taken in
     omega arith
 
--- src/completing.rt:23:9
 loop-less : tie.Need-loop-less Inv-loop μ-loop
 loop-less c =
     let below = (c .before .before) .loop-test .taken in
     omega arith
 
--- src/completing.rt:23:9
 loop-again : tie.Need-loop-again Inv-loop μ-loop
 loop-again c =
     let s = c .before .before .before .before in
@@ -83,7 +70,6 @@ loop-again c =
     let below = (c .before .before) .loop-test .taken in
     (omega arith, change-turn (s .args .t1) (l .self) (wakeEntry (s .args .name) (s .args .register)) (l .k) (c .wake .result) (l .inv .1) (c .wake .ensures))
 
--- src/completing.rt:17:5
 returns : tie.Need-returns Inv-loop μ-loop
 returns c =
     let s = c .before .before in
