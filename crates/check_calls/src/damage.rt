@@ -1,0 +1,53 @@
+// A call on a copy of the machine with one number out of range: 5, and the copy comes back as it was.
+use crate::calls;
+use crate::calls::Call;
+use crate::comparing;
+use crate::counting;
+use window::Machine;
+
+fn damaged(m: Machine, k: u32) -> Machine {
+    let mut d = m;
+    match k % 8 {
+        0 => d.count = 65,
+        1 => d.namehead = 96,
+        2 => d.registerhead = 96,
+        3 => d.physical[1] = 96,
+        4 => d.mapname[31] = 96,
+        5 => d.mapregister[1] = 96,
+        6 => d.registerlink[32] = 255,
+        _ => d.namelink[32] = 255,
+    }
+    d
+}
+
+pub fn tried(m: Machine, program: &[u8], data: &mut [u8], c: Call, k: u32, counts: &mut [u64]) {
+    let d = damaged(m, k);
+    let kind = c.kind;
+    let position = c.position;
+    let guess = c.guess;
+    let a = calls::made(
+        d,
+        program,
+        data,
+        Call {
+            kind,
+            position,
+            guess,
+        },
+    );
+    let machine = a.machine;
+    let report = d.report();
+    counting::told(
+        counts,
+        d,
+        machine,
+        Call {
+            kind,
+            position,
+            guess,
+        },
+        a.number,
+    );
+    let right = (a.number == 5) & (report.number == 5) & comparing::same(d, machine);
+    counting::expect(counts, counting::DIFFERENCES, right);
+}
