@@ -1,2 +1,3 @@
 -- The proof of demand 3.
 pub mod Core
+pub mod Stores
