@@ -5,7 +5,7 @@ use mathlib.Core.Bool.{Bool, true, false, not}
 use mathlib.Core.List.{List, [], _∷_, _++_}
 use native.Mathlib.Omega.{arith}
 use borrow.Author.Tests.{eq-eqb, ne-eqb}
-use lib.Dec.{eqb}
+use lib.Dec.{T, eqb}
 use lib.ListN.{length, getD, set, take, drop, replicate, length-set, length-drop, length-append, length-replicate}
 use lib.Seq.{length-take-le}
 use Rattle.isa.specs.Reads.{choose}
@@ -246,3 +246,50 @@ kept-redirected position next m k = at (eqb next (entryAt m position .predicted)
     at : (b : Bool) → Kept (choose b m (refetched position next (dropTo (suc position) m)))
     at true = k
     at false = kept-refetched (dropTo (suc position) m) (kept-drops (m .count - suc position) m k) position next
+
+-- bits that say which numbers are not 0
+abbrev alike : List Bool → List ℕ → Bool
+alike [] [] = true
+alike [] (n ∷ ns) = false
+alike (b ∷ bs) [] = false
+alike (true ∷ bs) (zero ∷ ns) = false
+alike (true ∷ bs) (suc n ∷ ns) = alike bs ns
+alike (false ∷ bs) (zero ∷ ns) = alike bs ns
+alike (false ∷ bs) (suc n ∷ ns) = false
+
+alike-at : (bs : List Bool) (ns : List ℕ) → T (alike bs ns) → (r : ℕ) → getD bs r false ≡ not (eqb (getD ns r 0) 0)
+alike-at [] [] t r = refl
+alike-at [] (n ∷ ns) t r = absurd t
+alike-at (b ∷ bs) [] t r = absurd t
+alike-at (true ∷ bs) (zero ∷ ns) t r = absurd t
+alike-at (true ∷ bs) (suc n ∷ ns) t zero = rw (ne-eqb (suc n) 0 (λ e. omega arith))
+alike-at (true ∷ bs) (suc n ∷ ns) t (suc r) = alike-at bs ns t r
+alike-at (false ∷ bs) (zero ∷ ns) t zero = refl
+alike-at (false ∷ bs) (zero ∷ ns) t (suc r) = alike-at bs ns t r
+alike-at (false ∷ bs) (suc n ∷ ns) t r = absurd t
+
+fresh-valid : Valid (false ∷ replicate 31 true) ownNumbers
+unfolding lookUnder
+fresh-valid r = at (eqb r 0) (alike-at (false ∷ replicate 31 true) ownNumbers tt r)
+  where
+    at : (q : Bool) → getD (false ∷ replicate 31 true) r false ≡ not (eqb (getD ownNumbers r 0) 0)
+        → choose q false (getD (false ∷ replicate 31 true) r false) ≡ not (eqb (choose q 0 (getD ownNumbers r 0)) 0)
+    at true k = refl
+    at false k = k
+
+pub kept-fresh : (window registers program bytes : ℕ) → window ≤ 64 → Kept (freshMachine window registers program bytes)
+unfolding risingLink
+kept-fresh window registers program bytes h =
+    record {
+      entries = refl;
+      mapname = refl;
+      mapregister = refl;
+      mapvalid = refl;
+      physical = refl;
+      values = refl;
+      registerlink = tabulate-length 96 0 (risingNext registers);
+      namelink = tabulate-length 96 0 (risingNext (31 + window));
+      count = omega arith;
+      window = h;
+      valid = fresh-valid;
+    }
