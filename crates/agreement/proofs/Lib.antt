@@ -2,3 +2,5 @@
 pub mod Core
 pub mod Stores
 pub mod Kept
+pub mod Tidy
+pub mod Views
