@@ -115,3 +115,99 @@ module _ (m : Machine) (k : Kept m) (some : 0 < m .count) (t : Tidy (coreOf m)) 
         next = m .next;
         halt = m .halt;
       })
+
+pub drops-count : (n : ℕ) (m : Machine) → dropMany n m .count ≡ m .count - n
+unfolding dropMany
+drops-count zero m = omega arith
+drops-count (suc n) m = let d = drop-count m in let r = drops-count n (dropYoungest m) in omega arith
+
+pub tidy-drop-machine : (m : Machine) → Kept m → 0 < m .count → Tidy (coreOf m) → Tidy (coreOf (dropYoungest m))
+tidy-drop-machine m k some t =
+    let l = seen-length m k in
+    subst Tidy (sym (view-drop m k some t)) (tidy-drop (m .count - 1) (coreOf m) t (omega arith))
+
+-- n entries are dropped, kept are left
+pub view-drops : (n kept : ℕ) (m : Machine) → Kept m → Tidy (coreOf m) → m .count ≡ kept + n → coreOf (dropMany n m) ≡ dropsTo kept n (coreOf m)
+unfolding dropMany dropsTo
+view-drops zero kept m k t e = refl
+view-drops (suc n) kept m k t e =
+    let some : 0 < m .count = omega arith in
+    let c = drop-count m in
+    let last : m .count - 1 ≡ kept + n = omega arith in
+    view-drops n kept (dropYoungest m) (kept-drop m k) (tidy-drop-machine m k some t) (omega arith)
+    ∙ ap (dropsTo kept n) (view-drop m k some t ∙ ap (λ (x : ℕ). dropAt x (coreOf m)) last)
+
+pub view-drop-to : (kept : ℕ) (m : Machine) → Kept m → Tidy (coreOf m) → kept ≤ m .count → coreOf (dropTo kept m) ≡ dropsTo kept (m .count - kept) (coreOf m)
+view-drop-to kept m k t h = view-drops (m .count - kept) kept m k t (omega arith)
+
+-- redirection
+pub view-refetched : (i next : ℕ) (m : Machine) → i < m .count
+    → coreOf (refetched i next m) ≡ steer next (m .next) (m .halt) (placed i (predictedEntry next (getD (coreOf m .entries) i emptyEntry)) (coreOf m))
+unfolding refetched
+view-refetched i next m h = λ j. record {
+  setup = m .setup;
+  entries = (take-set-lt (m .count) (m .entries) i (predictedEntry next (entryAt m i)) h
+      ∙ ap (λ (e : Entry). set (take (m .count) (m .entries)) i (predictedEntry next e)) (sym (seen-entry m i h))) j;
+  names = m .mapname;
+  registers = m .mapregister;
+  physical = m .physical;
+  values = m .values;
+  registerhead = m .registerhead;
+  registerlink = m .registerlink;
+  namehead = m .namehead;
+  namelink = m .namelink;
+  fetch = next;
+  next = m .next;
+  halt = m .halt;
+}
+
+module _ (i next : ℕ) (m : Machine) (k : Kept m) (t : Tidy (coreOf m)) (h : i < m .count) where
+  redirect-at : (b : Bool) → coreOf (choose b m (refetched i next (dropTo (suc i) m))) ≡ choose b (coreOf m) (let d : Core = dropsTo (suc i) (length (coreOf m .entries) - suc i) (coreOf m) in
+      steer next (d .next) (d .halt) (placed i (predictedEntry next (getD (d .entries) i emptyEntry)) d))
+  redirect-at true = refl
+  redirect-at false =
+      let n : ℕ = m .count - suc i in
+      let c = drops-count n m in
+      view-refetched i next (dropTo (suc i) m) (omega arith)
+      ∙ ap (λ (d : Core). steer next (d .next) (d .halt) (placed i (predictedEntry next (getD (d .entries) i emptyEntry)) d))
+          (view-drop-to (suc i) m k t h ∙ ap (λ (x : ℕ). dropsTo (suc i) (x - suc i) (coreOf m)) (sym (seen-length m k)))
+
+  pub view-redirected : coreOf (redirected i next m) ≡ redirect i next (coreOf m)
+  unfolding redirected redirect
+  view-redirected =
+      redirect-at (eqb next (entryAt m i .predicted))
+      ∙ ap (λ (e : Entry). choose (eqb next (e .predicted)) (coreOf m) (let d : Core = dropsTo (suc i) (length (coreOf m .entries) - suc i) (coreOf m) in
+          steer next (d .next) (d .halt) (placed i (predictedEntry next (getD (d .entries) i emptyEntry)) d))) (sym (seen-entry m i h))
+
+-- commit
+is-moved : (count : ℕ) (entries : List Entry) → length (drop 1 (take count entries)) ≡ count - 1 → take (count - 1) (moveDown count entries) ≡ drop 1 (take count entries)
+unfolding moveDown
+is-moved count entries l = take-at (drop 1 (take count entries)) (emptyEntry ∷ drop count entries) (count - 1) l
+
+pub view-retired : (m : Machine) → Kept m → 0 < m .count → getD (m .physical) 0 0 ≡ 0 → coreOf (retired m) ≡ retire (coreOf m)
+unfolding retired retire
+view-retired m k some z =
+    let e : Entry = entryAt m 0 in
+    let q : getD (take (m .count) (m .entries)) 0 emptyEntry ≡ e = seen-entry m 0 some in
+    let register : lookUp (m .physical) (e .previous) ≡ getD (m .physical) (e .previous) 0 = look-get (m .physical) (e .previous) z in
+    let l = seen-length m k in
+    let d = length-drop 1 (take (m .count) (m .entries)) in
+    rw q (λ i. record {
+      setup = m .setup;
+      entries = moved l d i;
+      names = m .mapname;
+      registers = m .mapregister;
+      physical = store-set (m .physical) (e .previous) 0 0 (λ x. z) i;
+      values = m .values;
+      registerhead = (ap (freedHead (m .registerhead)) register ∙ freed-head (m .registerhead) (getD (m .physical) (e .previous) 0)) i;
+      registerlink = (ap (freedLink (m .registerlink) (m .registerhead)) register ∙ freed-link (m .registerlink) (m .registerhead) (getD (m .physical) (e .previous) 0)) i;
+      namehead = freed-head (m .namehead) (e .previous) i;
+      namelink = freed-link (m .namelink) (m .namehead) (e .previous) i;
+      fetch = m .fetch;
+      next = e .predicted;
+      halt = m .halt;
+    })
+  where
+    moved : length (take (m .count) (m .entries)) ≡ m .count → length (drop 1 (take (m .count) (m .entries))) ≡ length (take (m .count) (m .entries)) - 1
+        → take (m .count - 1) (moveDown (m .count) (m .entries)) ≡ drop 1 (take (m .count) (m .entries))
+    moved l d = is-moved (m .count) (m .entries) (omega arith)
