@@ -4,3 +4,4 @@ pub mod Stores
 pub mod Kept
 pub mod Tidy
 pub mod Views
+pub mod Learns
