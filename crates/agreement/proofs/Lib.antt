@@ -5,3 +5,6 @@ pub mod Kept
 pub mod Tidy
 pub mod Views
 pub mod Learns
+pub mod Victim
+pub mod Refusals
+pub mod Turns
