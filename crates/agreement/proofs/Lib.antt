@@ -8,3 +8,6 @@ pub mod Learns
 pub mod Victim
 pub mod Refusals
 pub mod Turns
+pub mod Accepts
+pub mod InRange
+pub mod Reports
