@@ -1,2 +1,8 @@
 -- The proof of demand 3.
 pub mod Core
+-- the invariant
+pub mod Ghost
+pub mod Chains
+pub mod Contents
+pub mod Pools
+pub mod Invariant
