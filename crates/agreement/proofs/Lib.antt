@@ -6,3 +6,6 @@ pub mod Chains
 pub mod Contents
 pub mod Pools
 pub mod Invariant
+-- counting
+pub mod Tests
+pub mod Counting
