@@ -9,3 +9,5 @@ pub mod Invariant
 -- counting
 pub mod Tests
 pub mod Counting
+pub mod RegisterPools
+pub mod NamePools
