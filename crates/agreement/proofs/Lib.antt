@@ -11,3 +11,7 @@ pub mod Tests
 pub mod Counting
 pub mod RegisterPools
 pub mod NamePools
+-- laws of the parts
+pub mod Every
+pub mod LiveLaws
+pub mod Steps
