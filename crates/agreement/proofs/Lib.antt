@@ -15,3 +15,4 @@ pub mod NamePools
 pub mod Every
 pub mod LiveLaws
 pub mod Steps
+pub mod Walks
