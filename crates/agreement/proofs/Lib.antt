@@ -16,3 +16,5 @@ pub mod Every
 pub mod LiveLaws
 pub mod Steps
 pub mod Walks
+pub mod ContentLaws
+pub mod NameFacts
