@@ -18,3 +18,6 @@ pub mod Steps
 pub mod Walks
 pub mod ContentLaws
 pub mod NameFacts
+-- the changes, each keeps the invariant
+pub mod Placing
+pub mod Drop
