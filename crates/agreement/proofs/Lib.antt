@@ -21,3 +21,4 @@ pub mod NameFacts
 -- the changes, each keeps the invariant
 pub mod Placing
 pub mod Drop
+pub mod Learn
