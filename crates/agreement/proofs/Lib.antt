@@ -22,3 +22,4 @@ pub mod NameFacts
 pub mod Placing
 pub mod Drop
 pub mod Learn
+pub mod Retire
