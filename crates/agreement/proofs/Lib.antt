@@ -23,3 +23,5 @@ pub mod Placing
 pub mod Drop
 pub mod Learn
 pub mod Retire
+pub mod GhostLaws
+pub mod Entering

@@ -53,9 +53,9 @@ module _ (window : ℕ) (committed names : List ℕ) (head : ℕ) (link : List �
   unfolding occurrences same
   fresh-some e = omega (arith, pool .zeroFree, ap (λ (x : ℕ). same 0 x) e, same-refl 0)
 
-  pub fresh-name-range : y ≤ 31 + window
+  pub fresh-range : y ≤ 31 + window
   unfolding occurrences same
-  fresh-name-range = name-range window committed names head link (y ∷ free) pool y (omega (arith, same-refl y))
+  fresh-range = name-range window committed names head link (y ∷ free) pool y (omega (arith, same-refl y))
 
   pub fresh-once : (occurrences y free ≡ 0) × (occurrences y committed ≡ 0) × (occurrences y names ≡ 0)
   unfolding occurrences same
