@@ -25,3 +25,4 @@ pub mod Learn
 pub mod Retire
 pub mod GhostLaws
 pub mod Entering
+pub mod Append
