@@ -26,3 +26,4 @@ pub mod Retire
 pub mod GhostLaws
 pub mod Entering
 pub mod Append
+pub mod Issue
