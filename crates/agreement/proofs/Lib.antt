@@ -27,3 +27,5 @@ pub mod GhostLaws
 pub mod Entering
 pub mod Append
 pub mod Issue
+pub mod Complete
+pub mod Redirect
