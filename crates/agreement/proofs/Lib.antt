@@ -41,3 +41,6 @@ pub mod Turns
 pub mod Accepts
 pub mod InRange
 pub mod Reports
+-- the calls keep the invariant
+pub mod Tidied
+pub mod Runs
