@@ -44,3 +44,4 @@ pub mod Reports
 -- the calls keep the invariant
 pub mod Tidied
 pub mod Runs
+pub mod Decodes
