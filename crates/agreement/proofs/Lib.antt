@@ -29,3 +29,4 @@ pub mod Append
 pub mod Issue
 pub mod Complete
 pub mod Redirect
+pub mod Finish
