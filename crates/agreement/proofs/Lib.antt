@@ -30,3 +30,4 @@ pub mod Issue
 pub mod Complete
 pub mod Redirect
 pub mod Finish
+pub mod Commit
