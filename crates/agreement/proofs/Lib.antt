@@ -31,3 +31,6 @@ pub mod Complete
 pub mod Redirect
 pub mod Finish
 pub mod Commit
+-- the oldest entry goes on
+pub mod Liveness
+pub mod Victims
