@@ -1,7 +1,7 @@
 -- What holds after every call.
 use Prim.Native.Nat.{ℕ, _≤_}
 use mathlib.Core.Path.{_≡_}
-use mathlib.Core.List.{List, map}
+use mathlib.Core.List.{List, [], map}
 use lib.ListN.{length}
 use Rattle.reference.specs.Step.{State}
 use Rattle.agreement.proofs.Core.{Core}
@@ -40,3 +40,12 @@ pub record Invariant (program : List ℕ) (s : State) (c : Core) : Type 0 where
   pub executed : ExecutionChain program ghost s (map executionOf (c .entries))
   pub next : c .next ≡ s .address
   pub fetching : c .fetch ≡ lastState program s (map executionOf (c .entries)) .address
+
+-- without entries: what the report looks at, and what a halted machine is
+pub record Emptied (s : State) (c : Core) : Type 0 where
+  pub ghost : Ghost
+  pub committed : List ℕ
+  pub accounting : Accounting ghost committed c
+  pub agree : Agree ghost committed (s .registers)
+  pub next : c .next ≡ s .address
+  pub empty : c .entries ≡ []

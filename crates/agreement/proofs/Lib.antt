@@ -29,6 +29,11 @@ pub mod Append
 pub mod Issue
 pub mod Complete
 pub mod Redirect
+pub mod Finish
+pub mod Commit
+-- the oldest entry goes on
+pub mod Liveness
+pub mod Victims
 -- the calls on the machine's arrays are changes of what the theorem sees
 pub mod Stores
 pub mod Kept
