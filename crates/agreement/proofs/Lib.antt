@@ -50,3 +50,4 @@ pub mod Reports
 pub mod Tidied
 pub mod Runs
 pub mod Decodes
+pub mod Completes
