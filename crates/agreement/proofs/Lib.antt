@@ -51,3 +51,5 @@ pub mod Tidied
 pub mod Runs
 pub mod Decodes
 pub mod Completes
+pub mod Commits
+pub mod Steady
