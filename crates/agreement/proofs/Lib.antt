@@ -53,3 +53,5 @@ pub mod Decodes
 pub mod Completes
 pub mod Commits
 pub mod Steady
+pub mod Fits
+pub mod Safe
