@@ -34,3 +34,6 @@ pub mod Commit
 -- the oldest entry goes on
 pub mod Liveness
 pub mod Victims
+-- the start
+pub mod Rising
+pub mod Start

@@ -203,7 +203,7 @@ pub read-zero : (registers : List ℕ) → readRegister registers 0 ≡ 0
 unfolding readRegister
 read-zero registers = refl
 
-read-some : (registers : List ℕ) (r : ℕ) → r ≢ 0 → readRegister registers r ≡ getD registers r 0
+pub read-some : (registers : List ℕ) (r : ℕ) → r ≢ 0 → readRegister registers r ≡ getD registers r 0
 unfolding readRegister
 read-some registers r z = rw (ne-eqb r 0 z)
 
