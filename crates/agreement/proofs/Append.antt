@@ -1,8 +1,8 @@
 -- An entry that enters keeps the invariant: with a destination, its new name stands for what the in-order step will leave there.
-use Prim.Native.Nat.{ℕ, zero, suc, _≤_, _<_}
+use Prim.Native.Nat.{ℕ, zero, suc, _<_}
 use mathlib.Core.Path.{_≡_, refl, ap, sym, _∙_}
 use mathlib.Core.Logic.{_≢_}
-use mathlib.Core.List.{List, [], _∷_, _++_, map}
+use mathlib.Core.List.{List, [], _∷_, map}
 use native.Mathlib.Omega.{arith}
 use lib.ListN.{length, getD, set, length-map}
 use Rattle.reference.specs.Fetch.{fetchAt}
@@ -11,11 +11,11 @@ use Rattle.tables.specs.declared.Operand.the-variants.{Zero}
 use Rattle.tables.specs.declared.Entry.{Entry}
 use Rattle.window.specs.Decode.{enteringCause, endedEntry}
 use Rattle.agreement.proofs.Core.{Core, operandFor, append}
-use Rattle.agreement.proofs.Ghost.{Ghost, Agree}
+use Rattle.agreement.proofs.Ghost.{Ghost}
 use Rattle.agreement.proofs.Chains.{executionOf, Status, waits, stops, Executes, lastState}
 use Rattle.agreement.proofs.Pools.{nameOf, NamePool, Live}
 use Rattle.agreement.proofs.Invariant.{Accounting, Invariant}
-use Rattle.agreement.proofs.Tests.{Eq?, equal, apart, eq?}
+use Rattle.agreement.proofs.Tests.{equal, apart, eq?}
 use Rattle.agreement.proofs.Steps.{Unnamed, entering-unnamed, step-ended, read-zero}
 use Rattle.agreement.proofs.Walks.{executed-append, last-address}
 use Rattle.agreement.proofs.GhostLaws.{executed-ghost, agree-ghost}

@@ -1,25 +1,24 @@
 -- Commit: the committed state makes one in-order step; with a cause the in-order run stops there with that cause, and the machine halts.
-use Prim.Native.Nat.{ℕ, zero, suc, _+_, _<_, _≤_}
+use Prim.Native.Nat.{ℕ, _<_, _≤_}
 use mathlib.Core.Path.{_≡_, refl, ap, sym, _∙_}
 use mathlib.Core.Logic.{_≢_}
 use mathlib.Core.List.{List, [], _∷_, map}
 use native.Mathlib.Omega.{arith}
-use lib.ListN.{length, getD, set, take}
+use lib.ListN.{length, getD, set}
 use Rattle.reference.specs.Memory.{stored}
 use Rattle.reference.specs.Step.{State, state, readRegister, secondOf, stepOf}
 use Rattle.reference.specs.declared.Stop.{Stop}
 use Rattle.tables.specs.Entry.{emptyEntry}
-use Rattle.tables.specs.declared.State.the-variants.{Waits, Issued, Completed}
+use Rattle.tables.specs.declared.State.the-variants.{Completed}
 use Rattle.tables.specs.declared.Entry.{Entry}
-use Rattle.agreement.proofs.Core.{Core, dropAt, dropsTo, retire, steer}
-use Rattle.agreement.proofs.Ghost.{Ghost, Agree}
-use Rattle.agreement.proofs.Chains.{renamingOf, Renamed, RenameChain, lastNames, executionOf, Executable, Status, waits, reads, done, stops, Executes, followed, ExecutionChain, lastState}
-use Rattle.agreement.proofs.Contents.{Holds, holding, without, stopped, early, HoldsIn}
-use Rattle.agreement.proofs.Invariant.{Accounting, Invariant, Emptied}
+use Rattle.agreement.proofs.Core.{Core, dropsTo, retire, steer}
+use Rattle.agreement.proofs.Chains.{renamingOf, Renamed, RenameChain, lastNames, executionOf, waits, reads, done, stops, Executes, followed, ExecutionChain, lastState}
+use Rattle.agreement.proofs.Contents.{holding, without, stopped, early, HoldsIn}
+use Rattle.agreement.proofs.Invariant.{Invariant, Emptied}
 use Rattle.agreement.proofs.Tests.{impossible}
 use Rattle.agreement.proofs.Every.{all-at}
 use Rattle.agreement.proofs.Steps.{step-stored}
-use Rattle.agreement.proofs.Walks.{stateAt, executes-at, agree-next}
+use Rattle.agreement.proofs.Walks.{executes-at, agree-next}
 use Rattle.agreement.proofs.Placing.{steer-accounted}
 use Rattle.agreement.proofs.Drop.{drops-accounted, drops-entries}
 use Rattle.agreement.proofs.Redirect.{drops-next}

@@ -2,20 +2,19 @@
 use Prim.Native.Nat.{ℕ, zero, suc, _<_}
 use mathlib.Core.Path.{_≡_, refl, ap, sym, _∙_}
 use mathlib.Core.Logic.{_≢_}
-use mathlib.Core.List.{List, [], _∷_}
+use mathlib.Core.List.{List}
 use native.Mathlib.Omega.{arith}
 use native.Mathlib.Decide.{decLt}
 use lib.ListN.{length, getD, set, length-set, List·getD-eq-default}
 use lib.Seq.{getD-set-other, getD-set-same}
 use Rattle.tables.specs.declared.Operand.{Operand}
 use Rattle.tables.specs.declared.State.{State as Stage}
-use Rattle.tables.specs.declared.State.the-variants.{Completed}
 use Rattle.tables.specs.declared.Entry.{Entry}
 use Rattle.agreement.proofs.Core.{operandFor, nameIn, informed, informEntry, reshown}
 use Rattle.agreement.proofs.Ghost.{Ghost, Writers}
 use Rattle.agreement.proofs.Chains.{renamingOf}
-use Rattle.agreement.proofs.Contents.{Shown, ShownIn, Holds, holding, without, stopped, early, HoldsIn, Valued, GeneralMap}
-use Rattle.agreement.proofs.Tests.{Eq?, equal, apart, eq?}
+use Rattle.agreement.proofs.Contents.{ShownIn, Holds, holding, without, stopped, early, Valued, GeneralMap}
+use Rattle.agreement.proofs.Tests.{equal, apart, eq?}
 use Rattle.agreement.proofs.Counting.{clear-same}
 use Rattle.agreement.proofs.LiveLaws.{set-zero}
 use Rattle.agreement.proofs.Walks.{Lacks}
@@ -118,4 +117,3 @@ general-set g physical names registers n d q k l b z h a = elim (eq? (getD names
         inside : Dec (r < 32) → r ≡ d
         inside (yes y) = cc (k .writers r y)
         inside (no y) = absurd (z (cc (List·getD-eq-default names 0 {n = r} (omega arith))))
-

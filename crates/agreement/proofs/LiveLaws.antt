@@ -9,8 +9,8 @@ use lib.Seq.{getD-set-other, getD-set-same, set-getD}
 use Rattle.tables.specs.FreeList.{occurrences}
 use Rattle.agreement.proofs.Contents.{All}
 use Rattle.agreement.proofs.Pools.{registerOf, Live}
-use Rattle.agreement.proofs.Tests.{Eq?, equal, apart, eq?}
-use Rattle.agreement.proofs.Counting.{same, Same?, alike, other, same?, same-refl, same-not, count-set, count-last}
+use Rattle.agreement.proofs.Tests.{equal, apart, eq?}
+use Rattle.agreement.proofs.Counting.{same, alike, other, same?, same-refl, same-not, count-set, count-last}
 use Rattle.agreement.proofs.RegisterPools.{putFree}
 use Rattle.agreement.proofs.NamePools.{length-last}
 use Rattle.agreement.proofs.Every.{all-absent}

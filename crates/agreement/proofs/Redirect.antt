@@ -1,7 +1,6 @@
 -- After a completion: where the prediction was wrong, all younger entries go and the entry is the youngest, with its actual next address.
-use Prim.Native.Nat.{ℕ, zero, suc, _+_, _-_, _≤_, _<_}
+use Prim.Native.Nat.{ℕ, zero, suc, _+_, _-_, _<_}
 use mathlib.Core.Path.{_≡_, refl, ap, sym, _∙_}
-use mathlib.Core.Bool.{Bool, true, false}
 use mathlib.Core.List.{List, [], _∷_, _++_, map, map-append}
 use native.Mathlib.Omega.{arith}
 use borrow.Author.Tests.{eqb-true}
@@ -13,7 +12,7 @@ use Rattle.tables.specs.Entry.{emptyEntry, predictedEntry}
 use Rattle.tables.specs.declared.Entry.{Entry}
 use Rattle.agreement.proofs.Core.{Core, dropAt, dropsTo, placed, steer, redirect}
 use Rattle.agreement.proofs.Ghost.{Ghost, Agree}
-use Rattle.agreement.proofs.Chains.{renamingOf, Execution, executionOf, Executes, ExecutionChain, lastState}
+use Rattle.agreement.proofs.Chains.{Execution, executionOf, Executes, ExecutionChain, lastState}
 use Rattle.agreement.proofs.Contents.{ShownIn, HoldsIn}
 use Rattle.agreement.proofs.Invariant.{Accounting, Invariant}
 use Rattle.agreement.proofs.Tests.{by-choice}

@@ -2,13 +2,13 @@
 use Prim.Native.Nat.{ℕ, zero, suc, _+_, _-_, _≤_, _<_}
 use mathlib.Core.Path.{_≡_, refl, ap, sym, _∙_}
 use mathlib.Core.Logic.{_≢_}
-use mathlib.Core.List.{List, [], _∷_, _++_}
+use mathlib.Core.List.{List, [], _++_}
 use native.Mathlib.Omega.{arith}
 use native.Mathlib.Decide.{decLt}
 use native.Mathlib.Nat.{add-suc, zero-add}
 use lib.ListN.{length, getD, replicate, length-replicate, length-append, List·getD-append, List·getD-eq-default}
 use lib.Seq.{getD-append-add}
-use Rattle.reference.specs.Step.{State, readRegister}
+use Rattle.reference.specs.Step.{readRegister}
 use Rattle.tables.specs.FreeList.{occurrences, Pool}
 use Rattle.tables.proofs.TableLaws.{look-within}
 use Rattle.window.specs.SetUp.{ownNumbers, risingNext, risingLink, freshMachine, setUpRefusal}
@@ -23,7 +23,7 @@ use Rattle.agreement.proofs.Chains.{RenameChain, lastNames, ExecutionCh
 use Rattle.agreement.proofs.Contents.{All, GeneralMap}
 use Rattle.agreement.proofs.Pools.{RegisterPool, NamePool, Live}
 use Rattle.agreement.proofs.Invariant.{Accounting, Invariant}
-use Rattle.agreement.proofs.Tests.{Eq?, equal, apart, eq?}
+use Rattle.agreement.proofs.Tests.{equal, apart, eq?}
 use Rattle.agreement.proofs.Counting.{count-append, count-none}
 use Rattle.agreement.proofs.Steps.{read-zero, read-some}
 use Rattle.agreement.proofs.Rising.{rising-length, rising-at, rising-below, rising-past, rising-within, zeros-none, zeros-all, zeros-at, own-rising}
