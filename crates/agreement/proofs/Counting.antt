@@ -36,10 +36,6 @@ pub count-none : (k : ℕ) → occurrences k [] ≡ 0
 unfolding occurrences
 count-none k = refl
 
-pub count-more : (k n : ℕ) (ns : List ℕ) → occurrences k (n ∷ ns) ≡ same k n + occurrences k ns
-unfolding occurrences same
-count-more k n ns = refl
-
 pub count-append : (k : ℕ) (xs ys : List ℕ) → occurrences k (xs ++ ys) ≡ occurrences k xs + occurrences k ys
 unfolding occurrences same
 count-append k [] ys = omega arith

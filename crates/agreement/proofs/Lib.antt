@@ -21,11 +21,13 @@ pub mod NameFacts
 -- the changes, each keeps the invariant
 pub mod Placing
 pub mod Drop
+pub mod Unchanged
 pub mod Learn
 pub mod Retire
 pub mod GhostLaws
 pub mod Entering
 pub mod Append
+pub mod Decode
 pub mod Issue
 pub mod Complete
 pub mod Redirect
