@@ -95,3 +95,10 @@ pool-some last physical head link (x ∷ xs) pool z = (x, xs, pool)
 pub pool-empty : (last : ℕ) (physical : List ℕ) (head : ℕ) (link free : List ℕ) → RegisterPool last physical head link free → head ≡ 0 → length free ≡ 0
 pool-empty last physical head link [] pool e = refl
 pool-empty last physical head link (x ∷ xs) pool e = absurd (head-some last physical head link x xs pool e)
+
+-- the link of a register that a name has is zero
+pub held-outside : (last : ℕ) (physical : List ℕ) (head : ℕ) (link free : List ℕ) → RegisterPool last physical head link free → (n q : ℕ) → getD physical n 0 ≡ q → q ≢ 0 → getD link q 0 ≡ 0
+held-outside last physical head link free pool n q e z =
+    let one : 1 ≤ occurrences q physical = count-is physical n q e z in
+    let r : q ≤ last = register-range last physical head link free pool q (omega arith) in
+    pool .outside q (omega (arith, pool .once q (omega arith) r))
