@@ -1,25 +1,23 @@
 -- An entry that enters keeps the invariant: with a destination, its new name stands for what the in-order step will leave there.
-use Prim.Native.Nat.{ℕ, zero, suc, _≤_, _<_}
+use Prim.Native.Nat.{ℕ, zero, suc, _<_}
 use mathlib.Core.Path.{_≡_, refl, ap, sym, _∙_}
-use mathlib.Core.Logic.{_≢_}
-use mathlib.Core.List.{List, [], _∷_, _++_, map}
+use mathlib.Core.List.{List, [], _∷_, map}
 use native.Mathlib.Omega.{arith}
 use lib.ListN.{length, getD, set, length-map}
 use Rattle.reference.specs.Fetch.{fetchAt}
 use Rattle.reference.specs.Step.{State, destination, readRegister, stepOf}
-use Rattle.tables.specs.declared.Operand.the-variants.{Zero}
 use Rattle.tables.specs.declared.Entry.{Entry}
-use Rattle.window.specs.Decode.{enteringCause, endedEntry}
-use Rattle.agreement.proofs.Core.{Core, operandFor, append}
-use Rattle.agreement.proofs.Ghost.{Ghost, Agree}
+use Rattle.window.specs.Decode.{enteringCause}
+use Rattle.agreement.proofs.Core.{Core, append}
+use Rattle.agreement.proofs.Ghost.{Ghost}
 use Rattle.agreement.proofs.Chains.{executionOf, Status, waits, stops, Executes, lastState}
 use Rattle.agreement.proofs.Pools.{nameOf, NamePool, Live}
 use Rattle.agreement.proofs.Invariant.{Accounting, Invariant}
-use Rattle.agreement.proofs.Tests.{Eq?, equal, apart, eq?}
-use Rattle.agreement.proofs.Steps.{Unnamed, entering-unnamed, step-ended, read-zero}
+use Rattle.agreement.proofs.Tests.{equal, apart, eq?}
+use Rattle.agreement.proofs.Steps.{step-ended, read-zero}
 use Rattle.agreement.proofs.Walks.{executed-append, last-address}
 use Rattle.agreement.proofs.GhostLaws.{executed-ghost, agree-ghost}
-use Rattle.agreement.proofs.Entering.{Enters, zero-named, append-accounted-without, append-accounted-with, new-values, new-writers, new-here, uncommitted, others}
+use Rattle.agreement.proofs.Entering.{Enters, append-accounted-without, append-accounted-with, new-values, new-writers, new-here, uncommitted, others}
 
 -- a window that is not full leaves a name
 pub name-left : (window : ℕ) (physical committed names : List ℕ) (head : ℕ) (link free : List ℕ) → NamePool window committed names head link free → Live physical committed names free
@@ -106,26 +104,3 @@ module _ (p : List ℕ) (s : State) (c : Core) (invariant : Invariant p s c) (x 
           let f : (n : ℕ) × (ns : List ℕ) × NamePool (c .setup .window) m (map nameOf (c .entries)) (c .namehead) (c .namelink) (n ∷ ns) × Live (c .physical) m (map nameOf (c .entries)) (n ∷ ns) =
           name-left (c .setup .window) (c .physical) m (map nameOf (c .entries)) (c .namehead) (c .namelink) (accounting .freeNames) (accounting .namePool) (accounting .live) (rw length-map space) in
           append-with d e (f .0) (f .1) (f .2) (f .3)
-
--- no instruction, ECALL and EBREAK: an entry without operands and destination
-operand-zero : (register : ℕ) → operandFor 0 register ≡ Zero
-unfolding operandFor
-operand-zero register = refl
-
-pub ended-enters : (p : List ℕ) (s : State) (c : Core) → Invariant p s c → enteringCause (fetchAt p (c .fetch)) ≢ 0
-    → Enters p c (endedEntry (c .fetch) (fetchAt p (c .fetch) .fields) (enteringCause (fetchAt p (c .fetch))))
-ended-enters p s c invariant z =
-    let u : Unnamed (fetchAt p (c .fetch) .fields) = entering-unnamed p (c .fetch) z in
-    let n : getD (c .names) 0 0 ≡ 0 = zero-named (invariant .ghost) (invariant .committed) c (invariant .accounting) in
-    record {
-      instruction = refl;
-      address = refl;
-      left = rw (u .first) (rw n (sym (operand-zero _)));
-      right = rw (u .second) (rw n (sym (operand-zero _)));
-      written = sym (u .destination);
-      unnamed = λ q. refl;
-      named = λ q. absurd (q refl);
-      previous = sym n;
-      waits = λ q. absurd (z q);
-      stops = λ q. (refl, refl);
-    }

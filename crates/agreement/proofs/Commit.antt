@@ -1,28 +1,27 @@
 -- Commit: the committed state makes one in-order step; with a cause the in-order run stops there with that cause, and the machine halts.
-use Prim.Native.Nat.{ℕ, zero, suc, _+_, _<_, _≤_}
+use Prim.Native.Nat.{ℕ, _<_, _≤_}
 use mathlib.Core.Path.{_≡_, refl, ap, sym, _∙_}
 use mathlib.Core.Logic.{_≢_}
 use mathlib.Core.List.{List, [], _∷_, map}
 use native.Mathlib.Omega.{arith}
-use lib.ListN.{length, getD, set, take}
+use lib.ListN.{length, getD, set}
 use Rattle.reference.specs.Memory.{stored}
 use Rattle.reference.specs.Step.{State, state, readRegister, secondOf, stepOf}
 use Rattle.reference.specs.declared.Stop.{Stop}
 use Rattle.tables.specs.Entry.{emptyEntry}
-use Rattle.tables.specs.declared.State.the-variants.{Waits, Issued, Completed}
+use Rattle.tables.specs.declared.State.the-variants.{Completed}
 use Rattle.tables.specs.declared.Entry.{Entry}
-use Rattle.agreement.proofs.Core.{Core, dropAt, dropsTo, retire, steer}
-use Rattle.agreement.proofs.Ghost.{Ghost, Agree}
-use Rattle.agreement.proofs.Chains.{renamingOf, Renamed, RenameChain, lastNames, executionOf, Executable, Status, waits, reads, done, stops, Executes, followed, ExecutionChain, lastState}
-use Rattle.agreement.proofs.Contents.{Holds, holding, without, stopped, early, HoldsIn}
-use Rattle.agreement.proofs.Invariant.{Accounting, Invariant, Emptied}
+use Rattle.agreement.proofs.Core.{Core, dropsTo, retire, steer}
+use Rattle.agreement.proofs.Chains.{renamingOf, Renamed, RenameChain, lastNames, executionOf, waits, reads, done, stops, Executes, followed, ExecutionChain, lastState}
+use Rattle.agreement.proofs.Contents.{holding, without, stopped, early, HoldsIn}
+use Rattle.agreement.proofs.Invariant.{Invariant, Emptied}
 use Rattle.agreement.proofs.Tests.{impossible}
 use Rattle.agreement.proofs.Every.{all-at}
 use Rattle.agreement.proofs.Steps.{step-stored}
-use Rattle.agreement.proofs.Walks.{stateAt, executes-at, agree-next}
+use Rattle.agreement.proofs.Walks.{executes-at, agree-next}
 use Rattle.agreement.proofs.Placing.{steer-accounted}
 use Rattle.agreement.proofs.Drop.{drops-accounted, drops-entries}
-use Rattle.agreement.proofs.Redirect.{drops-next}
+use Rattle.agreement.proofs.Unchanged.{drops-next}
 use Rattle.agreement.proofs.Retire.{retire-accounted}
 
 module _ (p : List ℕ) (s : State) (c : Core) (invariant : Invariant p s c) (some : 0 < length (c .entries)) (now : getD (c .entries) 0 emptyEntry .state ≡ Completed) where
@@ -124,6 +123,11 @@ halt-emptied s c fetch why a =
       next = a .next;
       empty = a .empty;
     }
+
+-- the oldest entry stops: the rest is dropped, then this entry, and the machine halts
+pub halt-keeps : (p : List ℕ) (s : State) (c : Core) (why : Stop) → Invariant p s c
+    → let d : Core = dropsTo 0 (length (c .entries)) c in Emptied s (steer (d .fetch) (d .next) why d)
+halt-keeps p s c why invariant = halt-emptied s (dropsTo 0 (length (c .entries)) c) (dropsTo 0 (length (c .entries)) c .fetch) why (drops-emptied p s c invariant)
 
 -- what the general map then gives of a register
 pub emptied-value : (s : State) (c : Core) → Emptied s c → (r : ℕ) → 1 ≤ r → r < 32 → getD (c .values) (getD (c .registers) r 0) 0 ≡ readRegister (s .registers) r

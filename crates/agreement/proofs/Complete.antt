@@ -5,17 +5,14 @@ use mathlib.Core.Logic.{_≢_}
 use mathlib.Core.List.{List}
 use native.Mathlib.Omega.{arith}
 use lib.ListN.{length, getD}
-use Rattle.isa.specs.declared.Instruction.{Instruction}
 use Rattle.reference.specs.Execute.{executed}
-use Rattle.reference.specs.Fetch.{fetchAt}
-use Rattle.reference.specs.Step.{State, Step, destination, readRegister, firstOf, secondOf, stepOf}
-use Rattle.reference.specs.declared.Stop.{Stop}
+use Rattle.reference.specs.Step.{State, Step, destination, readRegister, firstOf, secondOf}
 use Rattle.reference.specs.declared.Outcome.{Outcome}
 use Rattle.tables.specs.Entry.{completedEntry, stoppedEntry, predictedEntry}
-use Rattle.tables.specs.declared.State.the-variants.{Waits, Issued, Completed}
+use Rattle.tables.specs.declared.State.the-variants.{Issued}
 use Rattle.tables.specs.declared.Entry.{Entry}
 use Rattle.agreement.proofs.Ghost.{Ghost}
-use Rattle.agreement.proofs.Chains.{executionOf, Executable, Status, waits, reads, done, stops, Executes}
+use Rattle.agreement.proofs.Chains.{executionOf, Executable, waits, reads, done, stops, Executes}
 use Rattle.agreement.proofs.Tests.{impossible}
 use Rattle.agreement.proofs.Steps.{step-goes, step-stops, write-read}
 

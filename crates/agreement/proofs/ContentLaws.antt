@@ -2,20 +2,19 @@
 use Prim.Native.Nat.{ℕ, zero, suc, _<_}
 use mathlib.Core.Path.{_≡_, refl, ap, sym, _∙_}
 use mathlib.Core.Logic.{_≢_}
-use mathlib.Core.List.{List, [], _∷_}
+use mathlib.Core.List.{List}
 use native.Mathlib.Omega.{arith}
 use native.Mathlib.Decide.{decLt}
 use lib.ListN.{length, getD, set, length-set, List·getD-eq-default}
 use lib.Seq.{getD-set-other, getD-set-same}
 use Rattle.tables.specs.declared.Operand.{Operand}
 use Rattle.tables.specs.declared.State.{State as Stage}
-use Rattle.tables.specs.declared.State.the-variants.{Completed}
 use Rattle.tables.specs.declared.Entry.{Entry}
 use Rattle.agreement.proofs.Core.{operandFor, nameIn, informed, informEntry, reshown}
 use Rattle.agreement.proofs.Ghost.{Ghost, Writers}
 use Rattle.agreement.proofs.Chains.{renamingOf}
-use Rattle.agreement.proofs.Contents.{Shown, ShownIn, Holds, holding, without, stopped, early, HoldsIn, Valued, GeneralMap}
-use Rattle.agreement.proofs.Tests.{Eq?, equal, apart, eq?}
+use Rattle.agreement.proofs.Contents.{ShownIn, Holds, holding, without, stopped, early, Valued, GeneralMap}
+use Rattle.agreement.proofs.Tests.{equal, apart, eq?}
 use Rattle.agreement.proofs.Counting.{clear-same}
 use Rattle.agreement.proofs.LiveLaws.{set-zero}
 use Rattle.agreement.proofs.Walks.{Lacks}
@@ -26,6 +25,7 @@ operand-name zero q = refl
 operand-name (suc n) zero = refl
 operand-name (suc n) (suc q) = refl
 
+-- operands on the name learn its register: they show the map as before, and are on the same names
 pub informed-name : (n q : ℕ) (o : Operand) → nameIn (informed n q o) ≡ nameIn o
 unfolding informed
 informed-name n q o = elim (eq? (nameIn o) n) [ equal e t ↦ rw t (operand-name n q ∙ sym e) | apart e t ↦ rw t ]
@@ -47,6 +47,7 @@ inform-shown physical n q l e k = record {
   right = rw (informed-name n q (e .right)) (informed-shows physical n q (e .right) l (k .right));
 }
 
+-- a register that no name has gets the value that the name stands for
 pub valued-set : (g : Ghost) (physical values : List ℕ) (n q v : ℕ) → n ≢ 0 → n < length physical → q < length values → v ≡ getD (g .value) n 0 → ((k : ℕ) → getD physical k 0 ≢ q)
     → Valued g physical values → Valued g (set physical n q) (set values q v)
 valued-set g physical values n q v z l l2 e f k = record {
@@ -94,7 +95,7 @@ shown-clear physical n e z l k = record {
   right = cc (k .right, clear-other physical n (nameIn (e .right)) z (λ x. l x .right));
 }
 
--- the general map
+-- the general map learns it where it still shows the name
 pub general-set : (g : Ghost) (physical names registers : List ℕ) (n d q : ℕ) → Writers g names → getD (g .writer) n 0 ≡ d → d < 32 → n ≢ 0 → n < length physical
     → GeneralMap physical names registers → GeneralMap (set physical n q) names (reshown names registers d n q)
 unfolding reshown
@@ -102,15 +103,15 @@ general-set g physical names registers n d q k l b z h a = elim (eq? (getD names
   | equal e t ↦ rw t (record {
     gives = λ r. elim (eq? r d) [
       | equal x u ↦ cc (getD-set-same registers d q 0 (omega arith), getD-set-same physical n q 0 h)
-      | apart x u ↦ getD-set-other registers d r q 0 x ∙ untold r (λ y. x (only r y))
+      | apart x u ↦ getD-set-other registers d r q 0 x ∙ elsewhere r (λ y. x (only r y))
     ];
     size = length-set registers d q ∙ a .size;
   })
-  | apart e t ↦ rw t (record { gives = λ r. untold r (λ y. e (cc (only r y))); size = a .size })
+  | apart e t ↦ rw t (record { gives = λ r. elsewhere r (λ y. e (cc (only r y))); size = a .size })
 ]
   where
-    untold : (r : ℕ) → getD names r 0 ≢ n → getD registers r 0 ≡ getD (set physical n q) (getD names r 0) 0
-    untold r x = a .gives r ∙ sym (getD-set-other physical n (getD names r 0) q 0 x)
+    elsewhere : (r : ℕ) → getD names r 0 ≢ n → getD registers r 0 ≡ getD (set physical n q) (getD names r 0) 0
+    elsewhere r x = a .gives r ∙ sym (getD-set-other physical n (getD names r 0) q 0 x)
 
     only : (r : ℕ) → getD names r 0 ≡ n → r ≡ d
     only r e = inside (decLt r 32)
@@ -118,4 +119,3 @@ general-set g physical names registers n d q k l b z h a = elim (eq? (getD names
         inside : Dec (r < 32) → r ≡ d
         inside (yes y) = cc (k .writers r y)
         inside (no y) = absurd (z (cc (List·getD-eq-default names 0 {n = r} (omega arith))))
-

@@ -2,7 +2,6 @@
 use Prim.Native.Nat.{ℕ, zero, suc, _+_, _≤_, _<_}
 use mathlib.Core.Path.{_≡_, refl, ap, sym, _∙_}
 use mathlib.Core.Logic.{_≢_}
-use mathlib.Core.Bool.{Bool, true, false}
 use mathlib.Core.List.{List, [], _∷_, _++_}
 use native.Mathlib.Omega.{arith}
 use native.Mathlib.Decide.{decLt}
@@ -13,7 +12,7 @@ use Rattle.isa.specs.Reads.{choose}
 use Rattle.tables.specs.Table.{lookUnder}
 use Rattle.tables.specs.FreeList.{Spells, occurrences}
 use Rattle.tables.proofs.TableLaws.{look-within}
-use Rattle.agreement.proofs.Tests.{Eq?, equal, apart, eq?}
+use Rattle.agreement.proofs.Tests.{equal, apart, eq?}
 
 -- 1 where two numbers are the same, else 0
 unfoldable pub same : ℕ → ℕ → ℕ
@@ -36,10 +35,6 @@ same-not k n h = elim (same? k n) [ alike e s ↦ absurd (h e) | other d s ↦ s
 pub count-none : (k : ℕ) → occurrences k [] ≡ 0
 unfolding occurrences
 count-none k = refl
-
-pub count-more : (k n : ℕ) (ns : List ℕ) → occurrences k (n ∷ ns) ≡ same k n + occurrences k ns
-unfolding occurrences same
-count-more k n ns = refl
 
 pub count-append : (k : ℕ) (xs ys : List ℕ) → occurrences k (xs ++ ys) ≡ occurrences k xs + occurrences k ys
 unfolding occurrences same

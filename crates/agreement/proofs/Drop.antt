@@ -1,5 +1,5 @@
 -- The youngest entry is dropped; so are all behind a position.
-use Prim.Native.Nat.{ℕ, zero, suc, _+_, _≤_, _<_}
+use Prim.Native.Nat.{ℕ, zero, suc, _+_, _<_}
 use mathlib.Core.Path.{_≡_, refl, ap, sym, _∙_}
 use mathlib.Core.Logic.{_≢_}
 use mathlib.Core.List.{List, [], _∷_, _++_, map, map-append}
@@ -15,8 +15,8 @@ use Rattle.agreement.proofs.Chains.{renamingOf, Renamed, lastNames}
 use Rattle.agreement.proofs.Contents.{All, ShownIn, HoldsIn, GeneralMap}
 use Rattle.agreement.proofs.Pools.{nameOf, NamePool}
 use Rattle.agreement.proofs.Invariant.{Accounting}
-use Rattle.agreement.proofs.Tests.{Eq?, equal, apart, eq?}
-use Rattle.agreement.proofs.Counting.{same, same-refl, count-last}
+use Rattle.agreement.proofs.Tests.{equal, apart, eq?}
+use Rattle.agreement.proofs.Counting.{same-refl, count-last}
 use Rattle.agreement.proofs.RegisterPools.{putFree, register-free}
 use Rattle.agreement.proofs.NamePools.{name-drop, name-most}
 use Rattle.agreement.proofs.LiveLaws.{live-drop}

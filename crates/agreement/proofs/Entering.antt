@@ -1,6 +1,6 @@
 -- An entry enters: what the tables say afterwards.
-use Prim.Native.Nat.{ℕ, zero, suc, _+_, _≤_, _<_}
-use mathlib.Core.Path.{_≡_, refl, ap, sym, _∙_}
+use Prim.Native.Nat.{ℕ, suc, _+_, _≤_, _<_}
+use mathlib.Core.Path.{_≡_, ap, sym, _∙_}
 use mathlib.Core.Logic.{_≢_}
 use mathlib.Core.List.{List, [], _∷_, _++_, map, map-append}
 use native.Mathlib.Omega.{arith}
@@ -16,10 +16,10 @@ use Rattle.window.specs.Decode.{enteringCause}
 use Rattle.agreement.proofs.Core.{Core, operandFor, nameIn, append}
 use Rattle.agreement.proofs.Ghost.{Ghost}
 use Rattle.agreement.proofs.Chains.{renamingOf, Renamed, lastNames}
-use Rattle.agreement.proofs.Contents.{All, Shown, ShownIn, Holds, stopped, early, HoldsIn, GeneralMap}
+use Rattle.agreement.proofs.Contents.{All, Shown, ShownIn, stopped, early, HoldsIn, GeneralMap}
 use Rattle.agreement.proofs.Pools.{nameOf, NamePool, Live}
 use Rattle.agreement.proofs.Invariant.{Accounting}
-use Rattle.agreement.proofs.Tests.{Eq?, equal, apart, eq?, impossible}
+use Rattle.agreement.proofs.Tests.{equal, apart, eq?, impossible}
 use Rattle.agreement.proofs.Counting.{count-not}
 use Rattle.agreement.proofs.NamePools.{name-take, name-none, fresh-is, fresh-some, fresh-range, fresh-once}
 use Rattle.agreement.proofs.LiveLaws.{set-zero, live-take, live-none}

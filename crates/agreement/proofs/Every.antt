@@ -7,7 +7,7 @@ use native.Mathlib.Omega.{arith}
 use lib.ListN.{length, getD, set, take}
 use Rattle.tables.specs.FreeList.{occurrences}
 use Rattle.agreement.proofs.Contents.{All}
-use Rattle.agreement.proofs.Counting.{same, Same?, alike, other, same?}
+use Rattle.agreement.proofs.Counting.{same, alike, other, same?}
 
 module _ {A : Type 0} where
   pub all-at : (q : A → Type 0) (es : List A) (d : A) (i : ℕ) → i < length es → All q es → q (getD es i d)

@@ -2,7 +2,7 @@
 use Prim.Native.Nat.{ℕ, zero, suc, _<_}
 use mathlib.Core.Path.{_≡_, refl, ap, sym, _∙_}
 use mathlib.Core.Logic.{_≢_}
-use mathlib.Core.List.{List, [], _∷_, map}
+use mathlib.Core.List.{List, _∷_, map}
 use native.Mathlib.Omega.{arith}
 use lib.ListN.{length, getD, set, take, length-set, length-map, List·getD-map}
 use lib.Seq.{getD-set-other}
@@ -10,22 +10,21 @@ use Rattle.reference.specs.Execute.{executed}
 use Rattle.reference.specs.Step.{State, destination}
 use Rattle.reference.specs.declared.Outcome.{Outcome}
 use Rattle.tables.specs.Entry.{emptyEntry, waitingEntry, completedEntry, stoppedEntry}
-use Rattle.tables.specs.declared.State.{State as Stage}
-use Rattle.tables.specs.declared.State.the-variants.{Waits, Issued, Completed}
+use Rattle.tables.specs.declared.State.the-variants.{Issued, Completed}
 use Rattle.tables.specs.declared.Entry.{Entry}
 use Rattle.agreement.proofs.Core.{Core, informEntry, putHead, placed, release, learn, redirect}
-use Rattle.agreement.proofs.Ghost.{Ghost, Agree}
-use Rattle.agreement.proofs.Chains.{renamingOf, Renamed, Execution, executionOf, Status, waits, reads, done, stops, Executes}
-use Rattle.agreement.proofs.Contents.{ShownIn, Holds, holding, without, stopped, early, HoldsIn}
+use Rattle.agreement.proofs.Ghost.{Ghost}
+use Rattle.agreement.proofs.Chains.{renamingOf, Renamed, Execution, executionOf, waits, reads, done, stops, Executes}
+use Rattle.agreement.proofs.Contents.{ShownIn, holding, without, stopped, early, HoldsIn}
 use Rattle.agreement.proofs.Pools.{RegisterPool}
-use Rattle.agreement.proofs.Invariant.{Accounting, Invariant}
+use Rattle.agreement.proofs.Invariant.{Invariant}
 use Rattle.agreement.proofs.Tests.{impossible}
 use Rattle.agreement.proofs.RegisterPools.{pool-some}
 use Rattle.agreement.proofs.Every.{all-at, map-keep}
 use Rattle.agreement.proofs.Walks.{namesAt, stateAt, renamed-at, executes-at, agree-at, executed-set, state-set, last-length}
 use Rattle.agreement.proofs.Placing.{placed-accounted, placed-keeps}
 use Rattle.agreement.proofs.Learn.{no-register, release-accounted, learn-accounted}
-use Rattle.agreement.proofs.Complete.{Read, issued-read, outcomeOf, complete-executes, complete-value, stop-executes}
+use Rattle.agreement.proofs.Complete.{issued-read, outcomeOf, complete-executes, complete-value, stop-executes}
 use Rattle.agreement.proofs.Redirect.{redirect-keeps}
 
 module _ (p : List ℕ) (s : State) (c : Core) (invariant : Invariant p s c) (i : ℕ) (inside : i < length (c .entries)) where

@@ -1,5 +1,5 @@
 -- The ghost, where one name that is not in use gets a new meaning.
-use Prim.Native.Nat.{ℕ, _<_}
+use Prim.Native.Nat.{ℕ}
 use mathlib.Core.Path.{_≡_, sym, _∙_}
 use mathlib.Core.Logic.{_≢_}
 use mathlib.Core.List.{List, [], _∷_, map}
@@ -15,8 +15,7 @@ module _ (g h : Ghost) (n : ℕ) (values : (j : ℕ) → j ≢ n → getD (h .va
   unfolding All RenameChain
   renamed-ghost m [] a k = tt
   renamed-ghost m (e ∷ es) a k =
-      let l : Renamed g m (renamingOf e) = k .0 in
-      (
+      let l : Renamed g m (renamingOf e) = k .0 in (
         record {
           written = l .written;
           small = l .small;
@@ -35,8 +34,7 @@ module _ (g h : Ghost) (n : ℕ) (values : (j : ℕ) → j ≢ n → getD (h .va
   unfolding All ExecutionChain
   executed-ghost p s [] q k = tt
   executed-ghost p s (e ∷ es) q k =
-      let o : Executes p g s (executionOf e) = k .0 in
-      (
+      let o : Executes p g s (executionOf e) = k .0 in (
         record { address = o .address; instruction = o .instruction; value = values (e .name) (q .0) ∙ o .value; status = o .status },
         executed-ghost p (followed p s (e .predicted)) es (q .1) (k .1),
       )

@@ -1,11 +1,10 @@
 -- Issue reads what the in-order state gives: a ready operand's register holds the value that its name stands for.
-use Prim.Native.Nat.{ℕ, zero, suc, _<_, _≤_}
+use Prim.Native.Nat.{ℕ, zero, suc, _<_}
 use mathlib.Core.Path.{_≡_, refl, ap, sym, _∙_}
-use mathlib.Core.Logic.{_≢_}
 use mathlib.Core.Bool.{Bool, true, false, _||_}
-use mathlib.Core.List.{List, [], _∷_, map}
+use mathlib.Core.List.{List}
 use native.Mathlib.Omega.{arith}
-use lib.ListN.{length, getD, set, take}
+use lib.ListN.{length, getD, take}
 use lib.Seq.{getD-take, length-take-le}
 use Rattle.reference.specs.Memory.{secondValue}
 use Rattle.reference.specs.Roles.{loads, stores}
@@ -13,17 +12,16 @@ use Rattle.reference.specs.Step.{State, firstSource, secondSource, readRegister
 use Rattle.tables.specs.Operand.{isReady, valueOf}
 use Rattle.tables.specs.Entry.{emptyEntry, issuedEntry}
 use Rattle.tables.specs.declared.Operand.{Operand}
-use Rattle.tables.specs.declared.Operand.the-variants.{Zero, Waiting, Ready}
-use Rattle.tables.specs.declared.State.the-variants.{Waits, Issued, Completed}
+use Rattle.tables.specs.declared.State.the-variants.{Waits}
 use Rattle.tables.specs.declared.Entry.{Entry}
 use Rattle.tables.proofs.TableLaws.{look-within}
 use Rattle.window.specs.Issue.{storeBelow}
 use Rattle.agreement.proofs.Core.{Core, operandFor, nameIn, placed}
 use Rattle.agreement.proofs.Ghost.{Ghost, Agree}
-use Rattle.agreement.proofs.Chains.{renamingOf, Renamed, executionOf, Status, waits, reads, done, stops, Executes}
-use Rattle.agreement.proofs.Contents.{All, ShownIn, Holds, early, HoldsIn, Valued}
-use Rattle.agreement.proofs.Invariant.{Accounting, Invariant}
-use Rattle.agreement.proofs.Tests.{Eq?, equal, apart, eq?, impossible}
+use Rattle.agreement.proofs.Chains.{renamingOf, Renamed, executionOf, waits, reads, done, stops, Executes}
+use Rattle.agreement.proofs.Contents.{ShownIn, early, HoldsIn, Valued}
+use Rattle.agreement.proofs.Invariant.{Invariant}
+use Rattle.agreement.proofs.Tests.{equal, apart, eq?, impossible}
 use Rattle.agreement.proofs.Every.{all-at, all-make}
 use Rattle.agreement.proofs.Steps.{second-same}
 use Rattle.agreement.proofs.Walks.{namesAt, stateAt, renamed-at, executes-at, executed-take, agree-at, last-unstored}

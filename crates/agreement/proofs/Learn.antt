@@ -1,19 +1,19 @@
 -- A name gets a register, or loses it: what every table says afterwards.
-use Prim.Native.Nat.{ℕ, zero, suc, _+_, _≤_, _<_}
-use mathlib.Core.Path.{_≡_, refl, ap, sym, _∙_}
+use Prim.Native.Nat.{ℕ, _<_}
+use mathlib.Core.Path.{_≡_, refl, ap, _∙_}
 use mathlib.Core.Logic.{_≢_}
-use mathlib.Core.List.{List, [], _∷_, map}
+use mathlib.Core.List.{List, _∷_, map}
 use native.Mathlib.Omega.{arith}
 use lib.ListN.{length, getD, set, length-set, length-map}
 use lib.Seq.{getD-set-same, map-set-same}
 use Rattle.tables.specs.FreeList.{occurrences}
 use Rattle.tables.specs.Entry.{emptyEntry, waitingEntry, completedEntry}
 use Rattle.tables.specs.declared.State.{State as Stage}
-use Rattle.tables.specs.declared.State.the-variants.{Waits, Issued, Completed}
+use Rattle.tables.specs.declared.State.the-variants.{Issued, Completed}
 use Rattle.tables.specs.declared.Entry.{Entry}
 use Rattle.agreement.proofs.Core.{Core, informEntry, reshown, release, learn}
 use Rattle.agreement.proofs.Ghost.{Ghost, Writers}
-use Rattle.agreement.proofs.Chains.{Renaming, renamingOf, executionOf}
+use Rattle.agreement.proofs.Chains.{Renaming, renamingOf}
 use Rattle.agreement.proofs.Contents.{All, ShownIn, Holds, holding, without, stopped, early, HoldsIn, GeneralMap}
 use Rattle.agreement.proofs.Pools.{nameOf, RegisterPool, Live}
 use Rattle.agreement.proofs.Invariant.{Accounting}

@@ -21,11 +21,13 @@ pub mod NameFacts
 -- the changes, each keeps the invariant
 pub mod Placing
 pub mod Drop
+pub mod Unchanged
 pub mod Learn
 pub mod Retire
 pub mod GhostLaws
 pub mod Entering
 pub mod Append
+pub mod Decode
 pub mod Issue
 pub mod Complete
 pub mod Redirect
@@ -34,6 +36,9 @@ pub mod Commit
 -- the oldest entry goes on
 pub mod Liveness
 pub mod Victims
+-- the start
+pub mod Rising
+pub mod Start
 -- the calls on the machine's arrays are changes of what the theorem sees
 pub mod Stores
 pub mod Kept

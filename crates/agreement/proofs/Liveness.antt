@@ -11,15 +11,15 @@ use Rattle.tables.specs.FreeList.{occurrences}
 use Rattle.tables.specs.Operand.{isReady}
 use Rattle.tables.specs.Entry.{emptyEntry}
 use Rattle.tables.specs.declared.Operand.{Operand}
-use Rattle.tables.specs.declared.State.the-variants.{Waits, Issued, Completed}
+use Rattle.tables.specs.declared.State.the-variants.{Completed}
 use Rattle.tables.specs.declared.Entry.{Entry}
 use Rattle.agreement.proofs.Core.{Core, operandFor, nameIn}
 use Rattle.agreement.proofs.Chains.{renamingOf, Renamed, lastNames}
-use Rattle.agreement.proofs.Contents.{ShownIn, Holds, holding, without, stopped, early, HoldsIn}
+use Rattle.agreement.proofs.Contents.{ShownIn, holding, without, stopped, early, HoldsIn}
 use Rattle.agreement.proofs.Pools.{nameOf, registerOf, NamePool, Live}
-use Rattle.agreement.proofs.Invariant.{Accounting, Invariant}
-use Rattle.agreement.proofs.Tests.{Eq?, equal, apart, eq?, impossible}
-use Rattle.agreement.proofs.Counting.{same, Same?, alike, other, same?}
+use Rattle.agreement.proofs.Invariant.{Invariant}
+use Rattle.agreement.proofs.Tests.{equal, apart, eq?}
+use Rattle.agreement.proofs.Counting.{same, alike, other, same?}
 use Rattle.agreement.proofs.RegisterPools.{pool-empty}
 use Rattle.agreement.proofs.NamePools.{fresh-is, fresh-some}
 use Rattle.agreement.proofs.Every.{all-at}

@@ -2,7 +2,7 @@
 use Prim.Native.Nat.{ℕ, zero, suc, _+_, _≤_, _<_}
 use mathlib.Core.Path.{_≡_, refl, sym, _∙_}
 use mathlib.Core.Logic.{_≢_}
-use mathlib.Core.List.{List, [], _∷_, map}
+use mathlib.Core.List.{List, map}
 use native.Mathlib.Omega.{arith}
 use lib.ListN.{length, getD, length-map, List·getD-map}
 use Rattle.tables.specs.FreeList.{occurrences}
@@ -36,9 +36,6 @@ module _ (window : ℕ) (committed : List ℕ) (es : List Entry) (head : ℕ) (l
       let o : occurrences k (map nameOf es) ≤ 1 = omega (arith, name-most window committed (map nameOf es) head link free pool k (omega arith)) in
       count-once (map nameOf es) j i (rw length-map l) (rw length-map h) (a ∙ sym b) (rw a o)
 
-  -- the name of an entry is not committed, and a committed one is no entry's
+  -- the name of an entry is not committed
   pub not-committed : (i k : ℕ) → getD es i emptyEntry .name ≡ k → k ≢ 0 → (r : ℕ) → getD committed r 0 ≢ k
   not-committed i k e z r q = omega (arith, name-most window committed (map nameOf es) head link free pool k (omega arith), count-name es i k e z, count-is committed r k q z)
-
-  pub not-entry : (r k : ℕ) → getD committed r 0 ≡ k → k ≢ 0 → All (λ e. e .name ≢ k) es
-  not-entry r k q z = no-name es k z (omega (arith, name-most window committed (map nameOf es) head link free pool k (omega arith), count-is committed r k q z))

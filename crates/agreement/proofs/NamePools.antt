@@ -1,8 +1,8 @@
 -- The pool of names through an entry's life, and which names have registers.
 use Prim.Native.Nat.{ℕ, zero, suc, _+_, _≤_, _<_}
-use mathlib.Core.Path.{_≡_, refl, ap, sym, _∙_}
+use mathlib.Core.Path.{_≡_, ap, sym, _∙_}
 use mathlib.Core.Logic.{_≢_}
-use mathlib.Core.List.{List, [], _∷_, _++_, map}
+use mathlib.Core.List.{List, [], _∷_, _++_}
 use native.Mathlib.Omega.{arith}
 use native.Mathlib.Decide.{decLe}
 use lib.ListN.{length, getD, set, length-set, length-append}
@@ -31,6 +31,7 @@ module _ (window : ℕ) (committed names : List ℕ) (head : ℕ) (link free : L
       inside (yes l) = l
       inside (no l) = omega (arith, pool .beyond k (omega arith))
 
+  -- an entry without a destination enters
   pub name-none : NamePool window committed (names ++ 0 ∷ []) head link free
   name-none = record {
     spells = pool .spells;
@@ -46,6 +47,7 @@ module _ (window : ℕ) (committed names : List ℕ) (head : ℕ) (link free : L
   }
 
 module _ (window : ℕ) (committed names : List ℕ) (head : ℕ) (link : List ℕ) (y : ℕ) (free : List ℕ) (pool : NamePool window committed names head link (y ∷ free)) where
+  -- the head is new
   pub fresh-is : head ≡ y
   fresh-is = spells-head link head y free (pool .spells)
 
@@ -64,6 +66,7 @@ module _ (window : ℕ) (committed names : List ℕ) (head : ℕ) (link : List �
       let o : occurrences y (y ∷ free) + occurrences y committed + occurrences y names ≤ 1 = name-most window committed names head link (y ∷ free) pool y (omega arith) in
       omega (arith, o, same-refl y)
 
+  -- an entry with a destination enters
   pub name-take : NamePool window committed (names ++ y ∷ []) (getD link head 0) (set link head 0) free
   unfolding occurrences same
   name-take =
@@ -81,6 +84,7 @@ module _ (window : ℕ) (committed names : List ℕ) (head : ℕ) (link : List �
         outside = outside-take link y free (pool .outside);
       })
 
+-- the youngest entry is dropped: its name is free
 pub name-drop : (window : ℕ) (committed names : List ℕ) (head : ℕ) (link free : List ℕ) (n : ℕ) → NamePool window committed (names ++ n ∷ []) head link free
     → NamePool window committed names (putHead n head) (putLink n head link) (putFree n free)
 unfolding occurrences same putHead putLink putFree
@@ -112,6 +116,7 @@ name-drop window committed names head link free (suc n) pool =
       outside = outside-free link (suc n) head free (pool .outside);
     }
 
+-- the oldest entry leaves: its name is committed, the previous one is free
 pub name-commit : (window : ℕ) (committed names : List ℕ) (head : ℕ) (link free : List ℕ) (n d k : ℕ) → NamePool window committed (n ∷ names) head link free → d < length committed → d ≢ 0 → n ≢ 0
     → getD committed d 0 ≡ suc k → NamePool window (set committed d n) names (suc k) (set link (suc k) head) (suc k ∷ free)
 unfolding occurrences same
@@ -132,7 +137,7 @@ name-commit window committed names head link free n d k pool h dz nz e =
       outside = outside-free link (suc k) head free (pool .outside);
     }
 
--- an entry without a destination goes
+-- the same without a destination
 pub name-commit-none : (window : ℕ) (committed names : List ℕ) (head : ℕ) (link free : List ℕ) → NamePool window committed (0 ∷ names) head link free → NamePool window committed names head link free
 unfolding occurrences same
 name-commit-none window committed names head link free pool = record {

@@ -1,6 +1,6 @@
 -- An entry changes, and no table does: kept where it is renamed alike, its operands show the map and it holds what it should.
 use Prim.Native.Nat.{ℕ, _<_}
-use mathlib.Core.Path.{_≡_, refl, ap, sym, _∙_}
+use mathlib.Core.Path.{_≡_, ap, sym, _∙_}
 use mathlib.Core.List.{List, map}
 use lib.ListN.{length, getD, set, length-set}
 use lib.Seq.{map-set-same}

@@ -1,7 +1,6 @@
 -- After a completion: where the prediction was wrong, all younger entries go and the entry is the youngest, with its actual next address.
-use Prim.Native.Nat.{ℕ, zero, suc, _+_, _-_, _≤_, _<_}
+use Prim.Native.Nat.{ℕ, zero, suc, _+_, _-_, _<_}
 use mathlib.Core.Path.{_≡_, refl, ap, sym, _∙_}
-use mathlib.Core.Bool.{Bool, true, false}
 use mathlib.Core.List.{List, [], _∷_, _++_, map, map-append}
 use native.Mathlib.Omega.{arith}
 use borrow.Author.Tests.{eqb-true}
@@ -11,9 +10,9 @@ use lib.Seq.{getD-set-same, take-suc-set, take-set-lt, take-set-le, length-take-
 use Rattle.reference.specs.Step.{State}
 use Rattle.tables.specs.Entry.{emptyEntry, predictedEntry}
 use Rattle.tables.specs.declared.Entry.{Entry}
-use Rattle.agreement.proofs.Core.{Core, dropAt, dropsTo, placed, steer, redirect}
+use Rattle.agreement.proofs.Core.{Core, dropsTo, placed, steer, redirect}
 use Rattle.agreement.proofs.Ghost.{Ghost, Agree}
-use Rattle.agreement.proofs.Chains.{renamingOf, Execution, executionOf, Executes, ExecutionChain, lastState}
+use Rattle.agreement.proofs.Chains.{Execution, executionOf, Executes, ExecutionChain, lastState}
 use Rattle.agreement.proofs.Contents.{ShownIn, HoldsIn}
 use Rattle.agreement.proofs.Invariant.{Accounting, Invariant}
 use Rattle.agreement.proofs.Tests.{by-choice}
@@ -21,17 +20,13 @@ use Rattle.agreement.proofs.Every.{all-at}
 use Rattle.agreement.proofs.Walks.{stateAt, executed-set, state-set, executed-take, executed-append, last-address}
 use Rattle.agreement.proofs.Placing.{placed-accounted, steer-accounted}
 use Rattle.agreement.proofs.Drop.{drops-accounted, drops-entries}
+use Rattle.agreement.proofs.Unchanged.{drops-next}
 
 map-take : {A B : Type 0} (f : A → B) (es : List A) (i : ℕ) → map f (take i es) ≡ take i (map f es)
 map-take f [] zero = refl
 map-take f [] (suc i) = refl
 map-take f (e ∷ es) zero = refl
 map-take f (e ∷ es) (suc i) = cc (map-take f es i)
-
-pub drops-next : (n j : ℕ) (c : Core) → dropsTo n j c .next ≡ c .next
-unfolding dropsTo dropAt
-drops-next n zero c = refl
-drops-next n (suc j) c = drops-next n j (dropAt (n + j) c)
 
 abbrev aimed : ℕ → Execution → Execution
 aimed next e =

@@ -17,13 +17,6 @@ unfoldable pub putFree : ℕ → List ℕ → List ℕ
 putFree zero xs = xs
 putFree (suc k) xs = suc k ∷ xs
 
-pub register-most : (last : ℕ) (physical : List ℕ) (head : ℕ) (link xs : List ℕ) → RegisterPool last physical head link xs → (k : ℕ) → 1 ≤ k → occurrences k xs + occurrences k physical ≤ 1
-register-most last physical head link xs pool k h = inside (decLe k last)
-  where
-    inside : Dec (k ≤ last) → occurrences k xs + occurrences k physical ≤ 1
-    inside (yes l) = omega (arith, pool .once k h l)
-    inside (no l) = omega (arith, pool .beyond k (omega arith))
-
 pub register-range : (last : ℕ) (physical : List ℕ) (head : ℕ) (link xs : List ℕ) → RegisterPool last physical head link xs → (k : ℕ) → 1 ≤ occurrences k xs + occurrences k physical → k ≤ last
 register-range last physical head link xs pool k h = inside (decLe k last)
   where
@@ -40,6 +33,7 @@ module _ (last : ℕ) (physical : List ℕ) (head : ℕ) (link : List ℕ) (x : 
       let o : occurrences x (x ∷ xs) + occurrences x physical ≡ 1 = pool .once x (omega arith) r in
       (spells-head link head x xs (pool .spells), z, r, omega (arith, o, same-refl x), omega (arith, o, same-refl x))
 
+  -- the head is no name's register
   pub head-is : head ≡ x
   head-is = head-facts .0
 
@@ -52,6 +46,7 @@ module _ (last : ℕ) (physical : List ℕ) (head : ℕ) (link : List ℕ) (x : 
   pub head-new : (k : ℕ) → getD physical k 0 ≢ head
   head-new k = rw head-is (count-not physical k x (head-facts .1) (head-facts .4))
 
+  -- a name without a register takes it
   pub register-take : (j : ℕ) → j < length physical → getD physical j 0 ≡ 0 → RegisterPool last (set physical j head) (getD link head 0) (set link head 0) xs
   unfolding occurrences same
   register-take j h z = rw head-is (record {
@@ -69,6 +64,7 @@ module _ (last : ℕ) (physical : List ℕ) (head : ℕ) (link : List ℕ) (x : 
       gone : (k : ℕ) → 1 ≤ k → same k (getD physical j 0) ≡ 0
       gone k a = ap (same k) z ∙ same-not k 0 (omega arith)
 
+-- the register of a name goes back, if it has one
 pub register-free : (last : ℕ) (physical : List ℕ) (head : ℕ) (link xs : List ℕ) (j q : ℕ) → RegisterPool last physical head link xs → j < length physical → getD physical j 0 ≡ q
     → RegisterPool last (set physical j 0) (putHead q head) (putLink q head link) (putFree q xs)
 unfolding occurrences same putHead putLink putFree
@@ -99,3 +95,10 @@ pool-some last physical head link (x ∷ xs) pool z = (x, xs, pool)
 pub pool-empty : (last : ℕ) (physical : List ℕ) (head : ℕ) (link free : List ℕ) → RegisterPool last physical head link free → head ≡ 0 → length free ≡ 0
 pool-empty last physical head link [] pool e = refl
 pool-empty last physical head link (x ∷ xs) pool e = absurd (head-some last physical head link x xs pool e)
+
+-- the link of a register that a name has is zero
+pub held-outside : (last : ℕ) (physical : List ℕ) (head : ℕ) (link free : List ℕ) → RegisterPool last physical head link free → (n q : ℕ) → getD physical n 0 ≡ q → q ≢ 0 → getD link q 0 ≡ 0
+held-outside last physical head link free pool n q e z =
+    let one : 1 ≤ occurrences q physical = count-is physical n q e z in
+    let r : q ≤ last = register-range last physical head link free pool q (omega arith) in
+    pool .outside q (omega (arith, pool .once q (omega arith) r))

@@ -1,32 +1,31 @@
 -- What the proof asks of the instruction set; nothing else of it is opened.
-use Prim.Native.Nat.{ℕ, zero, suc, _+_, _≤_, _<_}
-use mathlib.Core.Path.{_≡_, refl, ap, sym, subst, _∙_}
+use Prim.Native.Nat.{ℕ, zero, suc, _<_}
+use mathlib.Core.Path.{_≡_, refl, ap, sym, _∙_}
 use mathlib.Core.Logic.{_≢_}
 use mathlib.Core.Bool.{Bool, true, false}
-use mathlib.Core.List.{List, [], _∷_}
+use mathlib.Core.List.{List}
 use native.Mathlib.Omega.{arith}
-use borrow.Author.Tests.{eq-eqb, ne-eqb, eqb-true}
-use lib.Dec.{T, eqb, leb, leb→le}
-use lib.ListN.{length, getD, set, replicate, length-set}
+use borrow.Author.Tests.{eq-eqb, ne-eqb}
+use lib.Dec.{T, eqb}
+use lib.ListN.{length, getD, set, replicate}
 use lib.Seq.{getD-set-same}
 use Rattle.laws.proofs.Table.{at}
 use Rattle.isa.specs.Listing.{Format, R, I, S, B, U, J, Shift, Whole, formatOf}
-use Rattle.isa.specs.Reads.{choose, none, Numbers, legal, illegal, fieldsOf, operationOf, readAs, readOf}
+use Rattle.isa.specs.Reads.{choose, none, legal, fieldsOf, operationOf, readAs, readOf}
 use Rattle.isa.specs.declared.Instruction.{Instruction}
-use Rattle.isa.proofs.ReadLaws.{LegalWord, legal-word, operation-kept, read-none}
-use Rattle.reference.specs.Actions.{Action, Computes, LoadsSigned, LoadsUnsigned, Stores, Stops, actions, actionOf}
-use Rattle.reference.specs.Memory.{accessible, effective, secondBy, secondValue, storedBy, stored}
+use Rattle.isa.proofs.ReadLaws.{legal-word, operation-kept}
+use Rattle.reference.specs.Actions.{Action, Computes, LoadsSigned, LoadsUnsigned, Stores, Stops, actionOf}
+use Rattle.reference.specs.Memory.{accessible, secondBy, secondValue, storedBy, stored}
 use Rattle.reference.specs.Execute.{stop, stops, executedBy, executed}
 use Rattle.reference.specs.Roles.{loadsBy, loads, storesBy, stores, causeBy, causeAtOnce}
 use Rattle.reference.specs.Fetch.{FetchNumbers, noInstruction, ofReading, fetchAt}
-use Rattle.reference.specs.Step.{State, Step, state, firstSource, secondSource, destination, readRegister, writeRegister, reached, stoppedAt, settled, firstOf, secondOf, stepWith, stepFetched, stepOf}
+use Rattle.reference.specs.Step.{State, Step, state, firstSource, secondSource, destination, readRegister, writeRegister, reached, stoppedAt, settled, firstOf, secondOf, stepWith, stepOf}
 use Rattle.reference.specs.declared.Stop.{Stop}
 use Rattle.reference.specs.declared.Outcome.{Outcome}
-use Rattle.reference.proofs.FetchLaws.{fetched-small}
 use Rattle.reference.proofs.StepLaws.{choose-either, step-registers}
 use Rattle.reference.proofs.Laws.{statement}
 use Rattle.window.specs.Decode.{enteringCause}
-use Rattle.agreement.proofs.Tests.{Eq?, equal, apart, eq?, impossible}
+use Rattle.agreement.proofs.Tests.{equal, apart, eq?, impossible}
 
 -- a fetch: an instruction and no cause, or a cause and no instruction
 pub data Fetched (f : FetchNumbers) : Type 0 where
@@ -203,7 +202,7 @@ pub read-zero : (registers : List ℕ) → readRegister registers 0 ≡ 0
 unfolding readRegister
 read-zero registers = refl
 
-read-some : (registers : List ℕ) (r : ℕ) → r ≢ 0 → readRegister registers r ≡ getD registers r 0
+pub read-some : (registers : List ℕ) (r : ℕ) → r ≢ 0 → readRegister registers r ≡ getD registers r 0
 unfolding readRegister
 read-some registers r z = rw (ne-eqb r 0 z)
 

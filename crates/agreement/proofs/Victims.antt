@@ -1,6 +1,6 @@
 -- The search for a victim finds a holder where there is one, and nothing else.
 use Prim.Native.Nat.{ℕ, zero, suc, _+_, _≤_, _<_}
-use mathlib.Core.Path.{_≡_, refl, ap, sym, _∙_}
+use mathlib.Core.Path.{_≡_, refl, sym, _∙_}
 use mathlib.Core.Logic.{_≢_}
 use mathlib.Core.Bool.{Bool, true, false}
 use mathlib.Core.List.{List}
@@ -16,7 +16,7 @@ use Rattle.tables.specs.declared.State.the-variants.{Waits, Issued, Completed}
 use Rattle.tables.specs.declared.Entry.{Entry}
 use Rattle.tables.proofs.TableLaws.{look-within, look-zero}
 use Rattle.window.specs.Complete.{victimAmong}
-use Rattle.agreement.proofs.Tests.{Eq?, equal, apart, eq?, impossible}
+use Rattle.agreement.proofs.Tests.{equal, apart, eq?}
 
 -- what is read by number, 0 having nothing, is what the list has, if that has nothing under 0
 pub look-list : (table : List ℕ) (n : ℕ) → getD table 0 0 ≡ 0 → lookUp table n ≡ getD table n 0

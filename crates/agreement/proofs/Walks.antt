@@ -8,9 +8,7 @@ use native.Mathlib.Omega.{arith}
 use native.Mathlib.Decide.{decLt}
 use lib.ListN.{length, getD, set, take, length-set}
 use lib.Seq.{getD-set-other, getD-set-same, set-out}
-use Rattle.isa.specs.declared.Instruction.{Instruction}
 use Rattle.reference.specs.Roles.{stores}
-use Rattle.reference.specs.Fetch.{fetchAt}
 use Rattle.reference.specs.Step.{State, state, firstSource, secondSource, destination, stepOf}
 use Rattle.tables.specs.Entry.{emptyEntry}
 use Rattle.tables.specs.declared.Entry.{Entry}
@@ -18,7 +16,7 @@ use Rattle.agreement.proofs.Core.{nameIn}
 use Rattle.agreement.proofs.Ghost.{Ghost, Writers, Agree}
 use Rattle.agreement.proofs.Chains.{renamingOf, Renamed, RenameChain, lastNames, executionOf, Executes, followed, ExecutionChain, lastState}
 use Rattle.agreement.proofs.Contents.{All}
-use Rattle.agreement.proofs.Tests.{Eq?, equal, apart, eq?}
+use Rattle.agreement.proofs.Tests.{equal, apart, eq?}
 use Rattle.agreement.proofs.Steps.{step-other, step-size, step-length, step-unstored}
 use Rattle.agreement.proofs.LiveLaws.{set-zero}
 
