@@ -23,8 +23,7 @@ use Rattle.agreement.proofs.Contents.{HoldsIn}
 use Rattle.agreement.proofs.Pools.{RegisterPool}
 use Rattle.agreement.proofs.Invariant.{Accounting, Invariant}
 use Rattle.agreement.proofs.Tests.{Eq?, equal, apart, eq?}
-use Rattle.agreement.proofs.RegisterPools.{pool-some, register-most}
-use Rattle.agreement.proofs.Counting.{count-is}
+use Rattle.agreement.proofs.RegisterPools.{pool-some, held-outside}
 use Rattle.agreement.proofs.Walks.{namesAt, stateAt, executes-at, agree-at, last-length}
 use Rattle.agreement.proofs.Learn.{learn-accounted}
 use Rattle.agreement.proofs.Complete.{outcomeOf, issued-read, complete-value}
@@ -181,11 +180,8 @@ module _ (program : List ℕ) (s : State) (m : Machine) (k : Kept m) (invariant 
         -- the victim's register is not in the pool
         outside : getD (m .registerlink) (held (m .physical) (entryAt m v)) 0 ≡ 0
         outside =
-            let r : ℕ = held (m .physical) (entryAt m v) in
-            let pool = invariant .accounting .registerPool in
-            let a = register-most (m .setup .registers) (m .physical) (m .registerhead) (m .registerlink) (invariant .accounting .freeRegisters) pool r (omega arith) in
-            let b = count-is (m .physical) (entryAt m v .name) r (sym (plain-v .holds)) holds in
-            pool .outside r (omega arith)
+            held-outside (m .setup .registers) (m .physical) (m .registerhead) (m .registerlink) (invariant .accounting .freeRegisters) (invariant .accounting .registerPool) (entryAt m v .name)
+            (held (m .physical) (entryAt m v)) (sym (plain-v .holds)) holds
 
         view : coreOf (learned i (held (m .physical) (entryAt m v)) (o .result) (robbed v m)) ≡ learn i (o .result) (release v c)
         view = view-stolen v i (o .result) m k h there (λ z. omega arith) named-here named-v holds empty (plain-v .holds) outside

@@ -12,7 +12,8 @@ use Rattle.isa.specs.Reads.{choose}
 use Rattle.isa.specs.declared.Instruction.{Instruction}
 use Rattle.reference.specs.Fetch.{FetchNumbers, fetchAt}
 use Rattle.reference.specs.Memory.{secondValue}
-use Rattle.reference.specs.Roles.{loads, stores}
+use Rattle.reference.specs.Execute.{stop}
+use Rattle.reference.specs.Roles.{loads, stores, predictedNext}
 use Rattle.reference.specs.Step.{State, firstSource, secondSource, destination}
 use Rattle.tables.specs.Table.{lookUp, lookValid}
 use Rattle.tables.specs.Operand.{isReady, valueOf, shownOperand}
@@ -32,7 +33,8 @@ use Rattle.agreement.proofs.Invariant.{Accounting, Invariant}
 use Rattle.agreement.proofs.Steps.{Named, fetched-named}
 use Rattle.agreement.proofs.Walks.{writers-last}
 use Rattle.agreement.proofs.Entering.{Enters, zero-named}
-use Rattle.agreement.proofs.Append.{append-keeps, ended-enters}
+use Rattle.agreement.proofs.Append.{append-keeps}
+use Rattle.agreement.proofs.Decode.{startedIn, entryIn, entry-enters}
 use Rattle.agreement.proofs.Issue.{none-stored, issue-keeps}
 use Rattle.agreement.proofs.Stores.{look-get, shown-operand}
 use Rattle.agreement.proofs.Kept.{Kept}
@@ -61,35 +63,34 @@ module _ (program : List ℕ) (s : State) (m : Machine) (k : Kept m) (invariant 
       (λ z q. names-some (invariant .ghost) (invariant .committed) (coreOf m) (invariant .accounting) r h z (sym name ∙ q)) (k .valid r)
       ∙ ap (λ (x : ℕ). operandFor x (lookUp (m .mapregister) r)) name ∙ ap (operandFor (getD (m .mapname) r 0)) register
 
-  started-enters : (guess : ℕ) → enteringCause (fetchAt program (m .fetch)) ≡ 0 → Enters program (coreOf m) (startedEntry m (fetchAt program (m .fetch) .fields) guess)
-  started-enters guess z =
-      let i : Instruction = fetchAt program (m .fetch) .fields in
-      let n = fetched-named program (m .fetch) in
-      record {
-        instruction = refl;
-        address = refl;
-        left = operand-on (firstSource i) (n .first);
-        right = operand-on (secondSource i) (n .second);
-        written = refl;
-        unnamed = λ q. ap (λ (b : Bool). choose b 0 (m .namehead)) (eq-eqb (destination i) 0 q);
-        named = λ q. ap (λ (b : Bool). choose b 0 (m .namehead)) (ne-eqb (destination i) 0 q);
-        previous = look-get (m .mapname) (destination i) zero-name;
-        waits = λ q. (refl, refl);
-        stops = λ q. absurd (q z);
-      }
+  started-seen : (i : Instruction) (guess : ℕ) → Named i → startedEntry m i guess ≡ startedIn (coreOf m) i guess
+  started-seen i guess n = λ j. record {
+    instruction = i;
+    address = m .fetch;
+    predicted = predictedNext i (m .fetch) guess;
+    first = 0;
+    second = 0;
+    result = 0;
+    left = operand-on (firstSource i) (n .first) j;
+    right = operand-on (secondSource i) (n .second) j;
+    destination = destination i;
+    name = nameFor m (destination i);
+    previous = look-get (m .mapname) (destination i) zero-name j;
+    state = Waits;
+    stop = stop 0;
+  }
 
-  entry-enters : (guess : ℕ) → Enters program (coreOf m) (entryFor m (fetchAt program (m .fetch)) guess)
-  entry-enters guess = at (eqb (enteringCause (fetchAt program (m .fetch))) 0) refl
-    where
-      at : (b : Bool) → eqb (enteringCause (fetchAt program (m .fetch))) 0 ≡ b
-          → Enters program (coreOf m) (choose b (startedEntry m (fetchAt program (m .fetch) .fields) guess) (endedEntry (m .fetch) (fetchAt program (m .fetch) .fields) (enteringCause (fetchAt program (m .fetch)))))
-      at true e = started-enters guess (eqb-true (enteringCause (fetchAt program (m .fetch))) 0 e)
-      at false e = ended-enters program s (coreOf m) invariant (eqb-false (enteringCause (fetchAt program (m .fetch))) 0 e)
+  entry-seen : (guess : ℕ) → entryFor m (fetchAt program (m .fetch)) guess ≡ entryIn (coreOf m) (fetchAt program (m .fetch)) guess
+  entry-seen guess =
+      let f : FetchNumbers = fetchAt program (m .fetch) in
+      ap (λ (e : Entry). choose (eqb (enteringCause f) 0) e (endedEntry (m .fetch) (f .fields) (enteringCause f))) (started-seen (f .fields) guess (fetched-named program (m .fetch)))
 
-  pub decode-keeps : (guess : ℕ) → m .count < m .setup .window → Invariant program s (coreOf (decoded program guess m))
-  decode-keeps guess h =
-      let x : Entry = entryFor m (fetchAt program (m .fetch)) guess in
-      let enters = entry-enters guess in
+  pub decode-machine-keeps : (guess : ℕ) → m .count < m .setup .window → Invariant program s (coreOf (decoded program guess m))
+  decode-machine-keeps guess h =
+      let f : FetchNumbers = fetchAt program (m .fetch) in
+      let x : Entry = entryFor m f guess in
+      let q : x ≡ entryIn (coreOf m) f guess = entry-seen guess in
+      let enters : Enters program (coreOf m) x = subst (Enters program (coreOf m)) (sym q) (entry-enters program s (coreOf m) guess invariant) in
       let l = seen-length m k in
       subst (Invariant program s) (sym (view-enter x m k h (invariant .accounting .namePool .zeroLink) (enters .unnamed) (enters .named)))
       (append-keeps program s (coreOf m) invariant x enters (omega arith))

@@ -32,7 +32,7 @@ use Rattle.agreement.proofs.Invariant.{Invariant, Emptied}
 use Rattle.agreement.proofs.Runs.{ran, run-on, run-ends}
 use Rattle.agreement.proofs.Turns.{At, Goes, Turn, refused, enters, issues, ends, settles, takes, steals, retires, halts, turn}
 use Rattle.agreement.proofs.Refusals.{by-choose}
-use Rattle.agreement.proofs.Decodes.{decode-keeps, issue-machine-keeps}
+use Rattle.agreement.proofs.Decodes.{decode-machine-keeps, issue-machine-keeps}
 use Rattle.agreement.proofs.Completes.{stop-machine-keeps, settle-machine-keeps, take-machine-keeps, steal-machine-keeps}
 use Rattle.agreement.proofs.Commits.{halted-emptied, halt-machine-stops, retire-machine-steps, retire-machine-stores, retire-machine-keeps}
 use Rattle.agreement.proofs.Steady.{Steady, steady-enter, steady-learned, steady-robbed, steady-redirected, steady-retired, halted-halt}
@@ -86,7 +86,7 @@ module _ (program : List ℕ) (start : State) (n : ℕ) (w : World) (f : Fit pro
     turn-alive call made (refused r z e) =
         as-made call call made (madeBy m (w .memory) r) refl e (same w (counted call r) (counted-refused call r z) (alive s run halt memory zeros inv))
     turn-alive call made (enters guess u r l e) =
-        as-made call (decode guess) made _ u e (on _ (steady-enter (entryFor m (fetchAt program (m .fetch)) guess) m) (decode-keeps program s m (f .kept) inv guess l))
+        as-made call (decode guess) made _ u e (on _ (steady-enter (entryFor m (fetchAt program (m .fetch)) guess) m) (decode-machine-keeps program s m (f .kept) inv guess l))
     turn-alive call made (issues i u h a b l e) =
         as-made call (issue i) made _ u e (on _ (steady-issued (w .memory) i m) (issue-machine-keeps program s m (f .kept) inv i (w .memory) memory (h .there) (h .state) a b l))
     turn-alive call made (ends i u h z e) =
