@@ -60,3 +60,4 @@ pub mod Commits
 pub mod Steady
 pub mod Fits
 pub mod Safe
+pub mod Ranged
