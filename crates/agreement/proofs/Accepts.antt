@@ -1,4 +1,4 @@
--- When the calls are accepted.
+-- When the calls are accepted, and what they then leave.
 use Prim.Native.Nat.{ℕ, zero, suc, _-_, _≤_, _<_}
 use mathlib.Core.Path.{_≡_, refl, sym, ap, _∙_}
 use mathlib.Core.Bool.{Bool, true, false, not, _&&_}
@@ -8,7 +8,7 @@ use borrow.Author.Tests.{eq-eqb, ne-eqb, lt-leb}
 use lib.Dec.{leb, eqb}
 use lib.ListN.{length}
 use Rattle.isa.specs.Reads.{choose}
-use Rattle.laws.proofs.Bools.{both}
+use Rattle.laws.proofs.Bools.{impossible, both}
 use Rattle.reference.specs.Roles.{loads}
 use Rattle.reference.specs.Step.{when, first}
 use Rattle.tables.specs.Operand.{isReady}
@@ -24,7 +24,7 @@ use Rattle.window.specs.Complete.{outcomeAt, victimOf, noVictim, needsRegister,
 use Rattle.window.specs.Commit.{commitRefusal, Commit, commitBy, commitOf}
 use Rattle.window.specs.declared.Machine.{Machine}
 use Rattle.window.specs.declared.Answer.{Answer}
-use Rattle.agreement.specs.Lists.{Call, decode, issue, complete, commit, Made, callOf}
+use Rattle.agreement.specs.Lists.{Call, decode, issue, complete, commit, Made, madeBy, callOf}
 use Rattle.agreement.proofs.Refusals.{first-none, empty-none, in-turn-none, no-some}
 use Rattle.agreement.proofs.Turns.{At}
 use Rattle.agreement.proofs.Victim.{victim-there}
@@ -35,39 +35,39 @@ none-lent m program memory r p b =
     first-none (not (machineInRange m)) 5 (when (lengthsDiffer m program memory) 6 ∷ []) (ap not r)
     (first-none (lengthsDiffer m program memory) 6 [] (ap not (both (eq-eqb (length program) (m .setup .program) p) (eq-eqb (length memory) (m .setup .bytes) b))) empty-none)
 
-answer-none : (m next : Machine) (refusal : ℕ) → refusal ≡ 0 → answered m refusal next .number ≡ 0
-answer-none m next refusal e = at (eqb refusal 0) (eq-eqb refusal 0 e)
+answer-made : (m next : Machine) (memory : List ℕ) (refusal : ℕ) → refusal ≡ 0 → madeBy (answered m refusal next .machine) memory (answered m refusal next .number) ≡ madeBy next memory 0
+answer-made m next memory refusal e = at (eqb refusal 0) (eq-eqb refusal 0 e)
   where
-    at : (b : Bool) → b ≡ true → let a : Answer = choose b (record { machine = next; number = 0 }) (record { machine = m; number = refusal }) in a .number ≡ 0
+    at : (b : Bool) → b ≡ true → let a : Answer = choose b (record { machine = next; number = 0 }) (record { machine = m; number = refusal }) in madeBy (a .machine) memory (a .number) ≡ madeBy next memory 0
     at true q = refl
-    at false q = e
+    at false q = impossible q
 
 commit-none : (m : Machine) (memory : List ℕ) (refusal : ℕ) → refusal ≡ 0 → commitBy refusal memory m .answer .number ≡ 0
 commit-none m memory refusal e = rw (eq-eqb refusal 0 e)
 
 module _ (program memory : List ℕ) (m : Machine) (lent : lentRefusal m program memory ≡ 0) where
-  pub decode-accepted : (guess : ℕ) → m .halt .cause ≡ 0 → m .count < m .setup .window → callOf program memory (decode guess) m .number ≡ 0
+  pub decode-accepted : (guess : ℕ) → m .halt .cause ≡ 0 → m .count < m .setup .window → callOf program memory (decode guess) m ≡ madeBy (decoded program guess m) memory 0
   unfolding decodeOf decodeRefusal
   decode-accepted guess h l =
-      answer-none m (decoded program guess m) (inTurn (lentRefusal m program memory) (decodeRefusal m)) (in-turn-none (lentRefusal m program memory) (decodeRefusal m) lent
+      answer-made m (decoded program guess m) memory (inTurn (lentRefusal m program memory) (decodeRefusal m)) (in-turn-none (lentRefusal m program memory) (decodeRefusal m) lent
       (first-none (halted m) 10 _ (no-some (m .halt .cause) h)
       (first-none (leb (m .setup .window) (m .count)) 11 [] (lt-leb (m .setup .window) (m .count) l) empty-none)))
 
   pub issue-accepted : (i : ℕ) → At m i Waits → isReady (entryAt m i .left) ≡ true → isReady (entryAt m i .right) ≡ true → loads (entryAt m i .instruction) && storeBelow i (m .entries) ≡ false
-      → callOf program memory (issue i) m .number ≡ 0
+      → callOf program memory (issue i) m ≡ madeBy (issued memory i m) memory 0
   unfolding issueOf issueRefusal
   issue-accepted i h a b s =
-      answer-none m (issued memory i m) (inTurn (lentRefusal m program memory) (issueRefusal i m)) (in-turn-none (lentRefusal m program memory) (issueRefusal i m) lent
+      answer-made m (issued memory i m) memory (inTurn (lentRefusal m program memory) (issueRefusal i m)) (in-turn-none (lentRefusal m program memory) (issueRefusal i m) lent
       (first-none (halted m) 10 _ (no-some (m .halt .cause) (h .runs))
       (first-none (noEntry m i) 12 _ (lt-leb (m .count) i (h .there))
       (first-none (not (isWaiting (entryAt m i .state))) 13 _ (ap (λ (x : Stage). not (isWaiting x)) (h .state))
       (first-none (unready (entryAt m i)) 14 _ (ap not (both a b))
       (first-none (loads (entryAt m i .instruction) && storeBelow i (m .entries)) 15 [] s empty-none))))))
 
-  pub complete-accepted : (i : ℕ) → At m i Issued → needsRegister m i && noneFree m && noVictim m i ≡ false → callOf program memory (complete i) m .number ≡ 0
+  pub complete-accepted : (i : ℕ) → At m i Issued → needsRegister m i && noneFree m && noVictim m i ≡ false → callOf program memory (complete i) m ≡ madeBy (completed i m) memory 0
   unfolding completeOf completeRefusal
   complete-accepted i h s =
-      answer-none m (completed i m) (inTurn (lentRefusal m program memory) (completeRefusal i m)) (in-turn-none (lentRefusal m program memory) (completeRefusal i m) lent
+      answer-made m (completed i m) memory (inTurn (lentRefusal m program memory) (completeRefusal i m)) (in-turn-none (lentRefusal m program memory) (completeRefusal i m) lent
       (first-none (halted m) 10 _ (no-some (m .halt .cause) (h .runs))
       (first-none (noEntry m i) 12 _ (lt-leb (m .count) i (h .there))
       (first-none (not (isIssued (entryAt m i .state))) 13 _ (ap (λ (x : Stage). not (isIssued x)) (h .state))

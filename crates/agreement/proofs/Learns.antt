@@ -116,7 +116,7 @@ view-taken i result m h n r =
     ∙ taken-pool i result (coreOf m)
 
 -- the other entries of a robbed machine
-changed-at : (f : Entry → Entry) (count : ℕ) (entries : List Entry) (i : ℕ) → i < count → i < length entries → getD (changeFirst count f entries) i emptyEntry ≡ f (getD entries i emptyEntry)
+pub changed-at : (f : Entry → Entry) (count : ℕ) (entries : List Entry) (i : ℕ) → i < count → i < length entries → getD (changeFirst count f entries) i emptyEntry ≡ f (getD entries i emptyEntry)
 unfolding changeFirst
 changed-at f zero entries i h l = absurd (omega arith)
 changed-at f (suc count) [] i h l = absurd (omega arith)

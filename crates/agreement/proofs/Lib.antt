@@ -61,3 +61,4 @@ pub mod Steady
 pub mod Fits
 pub mod Safe
 pub mod Ranged
+pub mod Oldest
