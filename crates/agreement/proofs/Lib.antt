@@ -62,3 +62,4 @@ pub mod Fits
 pub mod Safe
 pub mod Ranged
 pub mod Oldest
+pub mod Onward
