@@ -63,3 +63,4 @@ pub mod Safe
 pub mod Ranged
 pub mod Oldest
 pub mod Onward
+pub mod Demand
