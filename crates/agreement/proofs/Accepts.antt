@@ -1,6 +1,6 @@
 -- When the calls are accepted, and what they then leave.
-use Prim.Native.Nat.{ℕ, zero, suc, _-_, _≤_, _<_}
-use mathlib.Core.Path.{_≡_, refl, sym, ap, _∙_}
+use Prim.Native.Nat.{ℕ, suc, _-_, _<_}
+use mathlib.Core.Path.{_≡_, refl, ap}
 use mathlib.Core.Bool.{Bool, true, false, not, _&&_}
 use mathlib.Core.List.{List, [], _∷_}
 use native.Mathlib.Omega.{arith}
@@ -10,24 +10,23 @@ use lib.ListN.{length}
 use Rattle.isa.specs.Reads.{choose}
 use Rattle.laws.proofs.Bools.{impossible, both}
 use Rattle.reference.specs.Roles.{loads}
-use Rattle.reference.specs.Step.{when, first}
+use Rattle.reference.specs.Step.{when}
 use Rattle.tables.specs.Operand.{isReady}
 use Rattle.tables.specs.Entry.{isWaiting, isIssued, isCompleted, held}
 use Rattle.tables.specs.declared.State.{State as Stage}
 use Rattle.tables.specs.declared.State.the-variants.{Waits, Issued, Completed}
-use Rattle.tables.specs.declared.Entry.{Entry}
 use Rattle.window.specs.Range.{machineInRange}
 use Rattle.window.specs.Call.{entryAt, halted, noEntry, lengthsDiffer, lentRefusal, inTurn, answered}
 use Rattle.window.specs.Decode.{decodeRefusal, decoded, decodeOf}
 use Rattle.window.specs.Issue.{storeBelow, unready, issueRefusal, issued, issueOf}
 use Rattle.window.specs.Complete.{outcomeAt, victimOf, noVictim, needsRegister, noneFree, completeRefusal, completed, completeOf}
-use Rattle.window.specs.Commit.{commitRefusal, Commit, commitBy, commitOf}
+use Rattle.window.specs.Commit.{commitRefusal, commitBy, commitOf}
 use Rattle.window.specs.declared.Machine.{Machine}
 use Rattle.window.specs.declared.Answer.{Answer}
-use Rattle.agreement.specs.Lists.{Call, decode, issue, complete, commit, Made, madeBy, callOf}
+use Rattle.agreement.specs.Lists.{decode, issue, complete, commit, madeBy, callOf}
 use Rattle.agreement.proofs.Refusals.{first-none, empty-none, in-turn-none, no-some}
 use Rattle.agreement.proofs.Turns.{At}
-use Rattle.agreement.proofs.Victim.{victim-there}
+use Rattle.agreement.proofs.Victims.{victim-found}
 
 pub none-lent : (m : Machine) (program memory : List ℕ) → machineInRange m ≡ true → length program ≡ m .setup .program → length memory ≡ m .setup .bytes → lentRefusal m program memory ≡ 0
 unfolding lentRefusal
@@ -101,4 +100,4 @@ supplied-none m i (stopping h) =
 supplied-none m i (needless h) =
     none-and (needsRegister m i && noneFree m) (noVictim m i) (none-and (needsRegister m i) (noneFree m) (none-and (not (eqb (entryAt m i .destination) 0)) _ (no-some (entryAt m i .destination) h)))
 supplied-none m i (free h) = none-and (needsRegister m i && noneFree m) (noVictim m i) (and-none (needsRegister m i) (noneFree m) (ne-eqb (m .registerhead) 0 h))
-supplied-none m i (younger j a b h) = and-none (needsRegister m i && noneFree m) (noVictim m i) (ne-eqb (victimOf m i) i (victim-there m i j a b h))
+supplied-none m i (younger j a b h) = and-none (needsRegister m i && noneFree m) (noVictim m i) (ne-eqb (victimOf m i) i (victim-found (m .count - suc i) (m .physical) (m .entries) i j a (omega arith) h))

@@ -124,11 +124,6 @@ halt-emptied s c fetch why a =
       empty = a .empty;
     }
 
--- the oldest entry stops: the rest is dropped, then this entry, and the machine halts
-pub halt-keeps : (p : List ℕ) (s : State) (c : Core) (why : Stop) → Invariant p s c
-    → let d : Core = dropsTo 0 (length (c .entries)) c in Emptied s (steer (d .fetch) (d .next) why d)
-halt-keeps p s c why invariant = halt-emptied s (dropsTo 0 (length (c .entries)) c) (dropsTo 0 (length (c .entries)) c .fetch) why (drops-emptied p s c invariant)
-
 -- what the general map then gives of a register
 pub emptied-value : (s : State) (c : Core) → Emptied s c → (r : ℕ) → 1 ≤ r → r < 32 → getD (c .values) (getD (c .registers) r 0) 0 ≡ readRegister (s .registers) r
 unfolding lastNames

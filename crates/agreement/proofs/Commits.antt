@@ -1,6 +1,6 @@
 -- Commit on the machine: one in-order step, or the halt.
-use Prim.Native.Nat.{ℕ, zero, suc, _-_, _≤_, _<_}
-use mathlib.Core.Path.{_≡_, refl, sym, ap, subst, _∙_}
+use Prim.Native.Nat.{ℕ, _-_, _<_}
+use mathlib.Core.Path.{_≡_, sym, ap, subst, _∙_}
 use mathlib.Core.Logic.{_≢_}
 use mathlib.Core.List.{List}
 use native.Mathlib.Omega.{arith}
@@ -9,13 +9,13 @@ use Rattle.reference.specs.Memory.{stored}
 use Rattle.reference.specs.Step.{State, stepOf}
 use Rattle.reference.specs.declared.Stop.{Stop}
 use Rattle.tables.specs.Entry.{emptyEntry}
-use Rattle.tables.specs.declared.State.the-variants.{Waits, Issued, Completed}
+use Rattle.tables.specs.declared.State.the-variants.{Completed}
 use Rattle.tables.specs.declared.Entry.{Entry}
 use Rattle.window.specs.Call.{entryAt}
 use Rattle.window.specs.Drop.{dropTo}
 use Rattle.window.specs.Commit.{haltedBy, retired}
 use Rattle.window.specs.declared.Machine.{Machine}
-use Rattle.agreement.proofs.Core.{Core, coreOf, dropsTo, retire, steer}
+use Rattle.agreement.proofs.Core.{Core, coreOf, dropsTo}
 use Rattle.agreement.proofs.Invariant.{Invariant, Emptied}
 use Rattle.agreement.proofs.Commit.{halt-stops, retire-steps, retire-stores, retire-keeps, drops-emptied, halt-emptied}
 use Rattle.agreement.proofs.Kept.{Kept}

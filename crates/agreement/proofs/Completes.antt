@@ -1,17 +1,16 @@
 -- Completion on the machine keeps the invariant, in each of its ways.
-use Prim.Native.Nat.{ℕ, zero, suc, _≤_, _<_}
+use Prim.Native.Nat.{ℕ, zero, suc, _<_}
 use mathlib.Core.Path.{_≡_, refl, sym, ap, subst, _∙_}
 use mathlib.Core.Logic.{_≢_}
-use mathlib.Core.List.{List, [], _∷_, map}
+use mathlib.Core.List.{List, _∷_, map}
 use native.Mathlib.Omega.{arith}
 use lib.ListN.{length, getD, set, take, length-set, length-map, List·getD-map}
 use lib.Seq.{getD-set-same, getD-set-other}
 use Rattle.laws.proofs.Lists.{getD-within}
-use Rattle.reference.specs.Execute.{executed}
 use Rattle.reference.specs.Step.{State, destination}
 use Rattle.reference.specs.declared.Outcome.{Outcome}
 use Rattle.tables.specs.Entry.{emptyEntry, held, completedEntry, stoppedEntry, waitingEntry}
-use Rattle.tables.specs.declared.State.the-variants.{Waits, Issued, Completed}
+use Rattle.tables.specs.declared.State.the-variants.{Issued, Completed}
 use Rattle.tables.specs.declared.Entry.{Entry}
 use Rattle.window.specs.Call.{entryAt, place}
 use Rattle.window.specs.Complete.{outcomeAt, robbed, learned, redirected}
@@ -19,20 +18,19 @@ use Rattle.window.specs.declared.Machine.{Machine}
 use Rattle.agreement.proofs.Core.{Core, coreOf, informEntry, putHead, placed, release, learn, redirect}
 use Rattle.agreement.proofs.Ghost.{Ghost}
 use Rattle.agreement.proofs.Chains.{renamingOf, Renamed, executionOf, Executes}
-use Rattle.agreement.proofs.Contents.{HoldsIn}
 use Rattle.agreement.proofs.Pools.{RegisterPool}
 use Rattle.agreement.proofs.Invariant.{Accounting, Invariant}
-use Rattle.agreement.proofs.Tests.{Eq?, equal, apart, eq?}
+use Rattle.agreement.proofs.Tests.{equal, apart, eq?}
 use Rattle.agreement.proofs.RegisterPools.{pool-some, held-outside}
 use Rattle.agreement.proofs.Walks.{namesAt, stateAt, executes-at, agree-at, last-length}
 use Rattle.agreement.proofs.Learn.{learn-accounted}
 use Rattle.agreement.proofs.Complete.{outcomeOf, issued-read, complete-value}
-use Rattle.agreement.proofs.Finish.{named, stop-keeps, finish-keeps-without, finish-keeps-free, release-keeps, finish-keeps-theft}
+use Rattle.agreement.proofs.Finish.{released-length, named, stop-keeps, finish-keeps-without, finish-keeps-free, release-keeps, finish-keeps-theft}
 use Rattle.agreement.proofs.Victims.{held-some}
 use Rattle.agreement.proofs.Stores.{look-get}
 use Rattle.agreement.proofs.Kept.{Kept, kept-place, kept-robbed, kept-learned}
 use Rattle.agreement.proofs.Tidy.{Plain, Tidy}
-use Rattle.agreement.proofs.Tidied.{held-is, accounted-renamed, accounted-holds, accounted-plain, accounted-tidy}
+use Rattle.agreement.proofs.Tidied.{accounted-renamed, accounted-tidy}
 use Rattle.agreement.proofs.Views.{seen-length, seen-entry, view-place, view-redirected}
 use Rattle.agreement.proofs.Learns.{Named, view-taken, view-stolen}
 
@@ -82,10 +80,6 @@ released-entry c i j h d =
     let n : length (map (informEntry (f .name) 0) l) ≡ length (c .entries) = length-map l (informEntry (f .name) 0) ∙ length-set (c .entries) j (waitingEntry f) in
     getD-within (map (informEntry (f .name) 0) l) i emptyEntry (informEntry (f .name) 0 emptyEntry) (omega arith)
     ∙ List·getD-map (informEntry (f .name) 0) l i emptyEntry ∙ ap (informEntry (f .name) 0) (getD-set-other (c .entries) j i (waitingEntry f) emptyEntry d)
-
-released-long : (c : Core) (j : ℕ) → length (release j c .entries) ≡ length (c .entries)
-unfolding release
-released-long c j = length-map (set (c .entries) j (waitingEntry (getD (c .entries) j emptyEntry))) _ ∙ length-set (c .entries) j (waitingEntry (getD (c .entries) j emptyEntry))
 
 put-some : (n head : ℕ) → n ≢ 0 → putHead n head ≢ 0
 unfolding putHead
@@ -194,7 +188,7 @@ module _ (program : List ℕ) (s : State) (m : Machine) (k : Kept m) (invariant 
 
         tidy-after : Tidy (learn i (o .result) (release v c))
         tidy-after =
-            learn-tidy program s (release v c) released i (let l = released-long c v in let n = inside in omega arith) (m .setup .bytes) sized (ap (λ (e : Entry). e .state) like ∙ now-seen) o
+            learn-tidy program s (release v c) released i (let l = released-length c v in let n = inside in omega arith) (m .setup .bytes) sized (ap (λ (e : Entry). e .state) like ∙ now-seen) o
             (ap (outcomeOf (m .setup .bytes)) like ∙ is) goes (λ z. written-seen (ap (λ (e : Entry). e .destination) (sym like) ∙ z)) (released-head c v has-seen)
 
         pub steal-machine-keeps : Invariant program s (coreOf (redirected i (o .next) (learned i (held (m .physical) (entryAt m v)) (o .result) (robbed v m))))

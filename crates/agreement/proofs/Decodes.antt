@@ -1,13 +1,12 @@
 -- Decode and issue on the machine keep the invariant.
-use Prim.Native.Nat.{ℕ, zero, suc, _≤_, _<_}
-use mathlib.Core.Path.{_≡_, refl, sym, ap, subst, _∙_}
+use Prim.Native.Nat.{ℕ, _<_}
+use mathlib.Core.Path.{_≡_, sym, ap, subst, _∙_}
 use mathlib.Core.Logic.{_≢_}
-use mathlib.Core.Bool.{Bool, true, false, not}
-use mathlib.Core.List.{List, map}
+use mathlib.Core.Bool.{true, false}
+use mathlib.Core.List.{List}
 use native.Mathlib.Omega.{arith}
-use borrow.Author.Tests.{eqb-true, eqb-false, eq-eqb, ne-eqb}
 use lib.Dec.{eqb}
-use lib.ListN.{length, getD}
+use lib.ListN.{getD}
 use Rattle.isa.specs.Reads.{choose}
 use Rattle.isa.specs.declared.Instruction.{Instruction}
 use Rattle.reference.specs.Fetch.{FetchNumbers, fetchAt}
@@ -16,25 +15,22 @@ use Rattle.reference.specs.Execute.{stop}
 use Rattle.reference.specs.Roles.{loads, stores, predictedNext}
 use Rattle.reference.specs.Step.{State, firstSource, secondSource, destination}
 use Rattle.tables.specs.Table.{lookUp, lookValid}
-use Rattle.tables.specs.Operand.{isReady, valueOf, shownOperand}
+use Rattle.tables.specs.Operand.{isReady, valueOf}
 use Rattle.tables.specs.Entry.{emptyEntry, issuedEntry}
-use Rattle.tables.specs.declared.Operand.{Operand}
-use Rattle.tables.specs.declared.State.the-variants.{Waits, Issued, Completed}
+use Rattle.tables.specs.declared.State.the-variants.{Waits}
 use Rattle.tables.specs.declared.Entry.{Entry}
 use Rattle.tables.proofs.TableLaws.{look-zero}
-use Rattle.window.specs.Call.{entryAt, place}
-use Rattle.window.specs.Decode.{enteringCause, endedEntry, operandOn, nameFor, startedEntry, entryFor, enter, decoded}
+use Rattle.window.specs.Call.{entryAt}
+use Rattle.window.specs.Decode.{enteringCause, endedEntry, operandOn, nameFor, startedEntry, entryFor, decoded}
 use Rattle.window.specs.Issue.{storeBelow, issued}
 use Rattle.window.specs.declared.Machine.{Machine}
 use Rattle.agreement.proofs.Core.{Core, coreOf, operandFor, placed, append}
 use Rattle.agreement.proofs.Ghost.{Ghost, Writers}
-use Rattle.agreement.proofs.Chains.{renamingOf, lastNames}
 use Rattle.agreement.proofs.Invariant.{Accounting, Invariant}
 use Rattle.agreement.proofs.Steps.{Named, fetched-named}
 use Rattle.agreement.proofs.Walks.{writers-last}
 use Rattle.agreement.proofs.Entering.{Enters, zero-named}
-use Rattle.agreement.proofs.Append.{append-keeps}
-use Rattle.agreement.proofs.Decode.{startedIn, entryIn, entry-enters}
+use Rattle.agreement.proofs.Decode.{startedIn, entryIn, entry-enters, decode-keeps}
 use Rattle.agreement.proofs.Issue.{none-stored, issue-keeps}
 use Rattle.agreement.proofs.Stores.{look-get, shown-operand}
 use Rattle.agreement.proofs.Kept.{Kept}
@@ -93,7 +89,7 @@ module _ (program : List ℕ) (s : State) (m : Machine) (k : Kept m) (invariant 
       let enters : Enters program (coreOf m) x = subst (Enters program (coreOf m)) (sym q) (entry-enters program s (coreOf m) guess invariant) in
       let l = seen-length m k in
       subst (Invariant program s) (sym (view-enter x m k h (invariant .accounting .namePool .zeroLink) (enters .unnamed) (enters .named)))
-      (append-keeps program s (coreOf m) invariant x enters (omega arith))
+      (subst (λ (y : Entry). Invariant program s (append (y .destination) y (coreOf m))) (sym q) (decode-keeps program s (coreOf m) guess invariant (omega arith)))
 
   -- issue
   issue-at : (i : ℕ) (e : Entry) → i < m .count → e ≡ entryAt m i → isReady (e .left) ≡ true → isReady (e .right) ≡ true → (memory : List ℕ)

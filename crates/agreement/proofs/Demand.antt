@@ -1,42 +1,41 @@
 -- The statement of demand 3.
-use Prim.Native.Nat.{ℕ, zero, suc, _+_, _-_, _≤_, _<_}
+use Prim.Native.Nat.{ℕ, _+_, _≤_, _<_}
 use mathlib.Core.Path.{_≡_, refl, sym, ap, subst, _∙_}
 use mathlib.Core.Logic.{_≢_}
-use mathlib.Core.Bool.{Bool, true, false, _&&_}
-use mathlib.Core.List.{List, [], _∷_}
+use mathlib.Core.Bool.{Bool, true, _&&_}
+use mathlib.Core.List.{List}
 use native.Mathlib.Nat.{add-zero, zero-add}
 use native.Mathlib.Omega.{arith}
 use borrow.Author.Tests.{eq-eqb, ne-eqb}
-use lib.Dec.{leb, eqb}
-use lib.ListN.{length, getD, replicate}
+use lib.Dec.{leb}
+use lib.ListN.{length, getD}
 use Rattle.isa.specs.Reads.{choose}
 use Rattle.laws.proofs.Bools.{and-left}
-use Rattle.reference.specs.Execute.{stop}
-use Rattle.reference.specs.Run.{Run, runOf}
-use Rattle.reference.specs.Step.{State, stepOf}
+use Rattle.reference.specs.Run.{runOf}
+use Rattle.reference.specs.Step.{State}
 use Rattle.reference.specs.declared.Stop.{Stop}
 use Rattle.tables.specs.Table.{lookUp}
 use Rattle.tables.proofs.TableLaws.{look-within}
 use Rattle.window.specs.SetUp.{freshMachine, setUpRefusal}
 use Rattle.window.specs.Range.{setupInRange, tablesInRange, entriesInRange, machineInRange}
 use Rattle.window.specs.Drop.{dropTo}
-use Rattle.window.specs.Report.{valueIn, reportOf}
+use Rattle.window.specs.Report.{valueIn}
 use Rattle.window.specs.declared.Machine.{Machine}
 use Rattle.window.proofs.DropLaws.{drop-done}
 use Rattle.window.proofs.FreshInRange.{fresh-in-range}
 use Rattle.window.proofs.SetUpLaws.{accepted-sizes}
-use Rattle.agreement.specs.Lists.{Event, World, makeAll, acceptedCommits, started, origin}
+use Rattle.agreement.specs.Lists.{World, makeAll, acceptedCommits, started, origin}
 use Rattle.agreement.specs.Statement.{Agrees, Statement}
 use Rattle.agreement.proofs.Core.{coreOf}
-use Rattle.agreement.proofs.Invariant.{Invariant, Emptied}
+use Rattle.agreement.proofs.Invariant.{Emptied}
 use Rattle.agreement.proofs.Commit.{emptied-value, emptied-register}
 use Rattle.agreement.proofs.Start.{start}
 use Rattle.agreement.proofs.Steps.{read-some}
-use Rattle.agreement.proofs.Kept.{Kept, kept-fresh}
+use Rattle.agreement.proofs.Kept.{kept-fresh}
 use Rattle.agreement.proofs.Views.{seen-length}
 use Rattle.agreement.proofs.InRange.{in-range}
 use Rattle.agreement.proofs.Reports.{report-is}
-use Rattle.agreement.proofs.Runs.{ran, run-none}
+use Rattle.agreement.proofs.Runs.{run-none}
 use Rattle.agreement.proofs.Commits.{dropped-emptied}
 use Rattle.agreement.proofs.Fits.{Fit}
 use Rattle.agreement.proofs.Safe.{Safe, alive, dead, Reached, all-reached}

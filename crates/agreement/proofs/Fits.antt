@@ -1,28 +1,26 @@
 -- What every turn keeps of a world, whatever the run says: lengths, valid bits and set-up's numbers.
-use Prim.Native.Nat.{ℕ, zero, suc, _-_, _≤_, _<_}
+use Prim.Native.Nat.{ℕ, _-_}
 use mathlib.Core.Path.{_≡_, refl, sym, ap, subst, _∙_}
 use mathlib.Core.Bool.{true}
 use mathlib.Core.List.{List}
-use native.Mathlib.Omega.{arith}
 use lib.ListN.{length}
 use Rattle.reference.specs.Fetch.{fetchAt}
-use Rattle.reference.specs.Memory.{stored}
 use Rattle.reference.proofs.Laws.{statement}
-use Rattle.tables.specs.Entry.{stoppedEntry, completedEntry, issuedEntry, held}
+use Rattle.tables.specs.Entry.{stoppedEntry, completedEntry, held}
 use Rattle.tables.specs.declared.Entry.{Entry}
 use Rattle.window.specs.Range.{setupInRange}
 use Rattle.window.specs.Call.{entryAt, place}
 use Rattle.window.specs.Drop.{dropTo}
-use Rattle.window.specs.Decode.{entryFor, decoded}
+use Rattle.window.specs.Decode.{entryFor}
 use Rattle.window.specs.Issue.{issued}
-use Rattle.window.specs.Complete.{outcomeAt, robbed, learned, redirected}
-use Rattle.window.specs.Commit.{haltedBy, retired}
+use Rattle.window.specs.Complete.{outcomeAt, robbed, learned}
+use Rattle.window.specs.Commit.{retired}
 use Rattle.window.specs.declared.Setup.{Setup}
 use Rattle.window.specs.declared.Machine.{Machine}
 use Rattle.agreement.specs.Lists.{Call, World, Made, madeBy}
 use Rattle.agreement.proofs.Kept.{Kept, kept-enter, kept-place, kept-robbed, kept-learned, kept-drops, kept-redirected, kept-retired, kept-halted}
-use Rattle.agreement.proofs.Turns.{At, Goes, Turn, refused, enters, issues, ends, settles, takes, steals, retires, halts}
-use Rattle.agreement.proofs.Steady.{Steady, steady-both, steady-enter, steady-place, steady-learned, steady-robbed, steady-drops, steady-redirected, steady-retired, halted-setup}
+use Rattle.agreement.proofs.Turns.{Turn, refused, enters, issues, ends, settles, takes, steals, retires, halts}
+use Rattle.agreement.proofs.Steady.{Steady, steady-enter, steady-place, steady-learned, steady-robbed, steady-drops, steady-redirected, steady-retired, halted-setup}
 
 pub record Fit (program : List ℕ) (w : World) : Type 0 where
   pub kept : Kept (w .machine)

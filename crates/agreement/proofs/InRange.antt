@@ -1,8 +1,8 @@
 -- Facts about the numbers of a machine, and that refusal 5 does not apply where they hold.
-use Prim.Native.Nat.{ℕ, zero, suc, _+_, _-_, _≤_, _<_}
-use mathlib.Core.Path.{_≡_, refl, sym, ap, subst, _∙_}
+use Prim.Native.Nat.{ℕ, zero, suc, _≤_, _<_}
+use mathlib.Core.Path.{_≡_, refl, sym, ap, _∙_}
 use mathlib.Core.Bool.{Bool, true, false, not, _&&_, _||_}
-use mathlib.Core.List.{List, [], _∷_}
+use mathlib.Core.List.{List}
 use native.Mathlib.Omega.{arith}
 use borrow.Author.Tests.{le-leb, eqb-true, eq-eqb}
 use lib.Dec.{leb, eqb}
@@ -11,18 +11,15 @@ use Rattle.laws.proofs.Bools.{impossible, both}
 use Rattle.isa.specs.Encodes.{accepted}
 use Rattle.reference.specs.Memory.{storeEndsWithin}
 use Rattle.tables.specs.Entry.{emptyEntry, isCompleted}
-use Rattle.tables.specs.declared.Operand.{Operand}
-use Rattle.tables.specs.declared.Operand.the-variants.{Zero, Waiting, Ready}
 use Rattle.tables.specs.declared.State.{State as Stage}
 use Rattle.tables.specs.declared.State.the-variants.{Waits, Issued, Completed}
 use Rattle.tables.specs.declared.Entry.{Entry}
 use Rattle.window.specs.Machine.{namesOf}
-use Rattle.window.specs.Range.{everyFrom, within, setupInRange, operandInRange, isNone, instructionInRange, causeInRange, storeInRange, entryInRange, entriesInRange, tablesInRange, machineInRange}
-use Rattle.window.specs.Call.{entryAt}
+use Rattle.window.specs.Range.{within, setupInRange, operandInRange, isNone, instructionInRange, causeInRange, storeInRange, entryInRange, entriesInRange, tablesInRange, machineInRange}
 use Rattle.window.specs.declared.Setup.{Setup}
 use Rattle.window.specs.declared.Machine.{Machine}
 use Rattle.window.proofs.RangeLaws.{every-holds}
-use Rattle.agreement.proofs.Core.{Core, coreOf, operandFor, nameIn}
+use Rattle.agreement.proofs.Core.{Core, coreOf, operandFor}
 use Rattle.agreement.proofs.Kept.{Kept}
 use Rattle.agreement.proofs.Views.{seen-length, seen-entry}
 

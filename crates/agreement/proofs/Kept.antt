@@ -1,12 +1,12 @@
 -- Lengths of the machine's arrays, its count and its valid bits, which every change keeps.
 use Prim.Native.Nat.{ℕ, zero, suc, _+_, _-_, _≤_, _<_}
-use mathlib.Core.Path.{_≡_, refl, sym, ap, subst, _∙_}
+use mathlib.Core.Path.{_≡_, refl, sym, _∙_}
 use mathlib.Core.Bool.{Bool, true, false, not}
-use mathlib.Core.List.{List, [], _∷_, _++_}
+use mathlib.Core.List.{List, [], _∷_}
 use native.Mathlib.Omega.{arith}
-use borrow.Author.Tests.{eq-eqb, ne-eqb}
+use borrow.Author.Tests.{ne-eqb}
 use lib.Dec.{T, eqb}
-use lib.ListN.{length, getD, set, take, drop, replicate, length-set, length-drop, length-append, length-replicate}
+use lib.ListN.{length, getD, set, take, drop, replicate, length-set, length-drop, length-append}
 use lib.Seq.{length-take-le}
 use Rattle.isa.specs.Reads.{choose}
 use Rattle.reference.specs.declared.Stop.{Stop}
@@ -15,14 +15,13 @@ use Rattle.tables.specs.Entry.{emptyEntry, completedEntry, waitingEntry, sleepE
 use Rattle.tables.specs.declared.Entry.{Entry}
 use Rattle.tables.proofs.TableLaws.{store-length}
 use Rattle.window.specs.SetUp.{freshMachine, risingNext, risingLink, ownNumbers}
-use Rattle.window.specs.Call.{place, changeFirst, entryAt}
+use Rattle.window.specs.Call.{place, entryAt}
 use Rattle.window.specs.Decode.{enter}
 use Rattle.window.specs.Drop.{dropYoungest, dropMany, dropTo, restored}
 use Rattle.window.specs.Complete.{shows, robbed, learned, refetched, redirected}
 use Rattle.window.specs.Commit.{haltedBy, moveDown, retired}
 use Rattle.window.specs.declared.Machine.{Machine}
 use Rattle.window.proofs.TabulateLaws.{tabulate-length}
-use Rattle.window.proofs.DropLaws.{drop-count}
 use Rattle.agreement.proofs.Stores.{change-length}
 
 -- a valid bit says that the general map shows a register

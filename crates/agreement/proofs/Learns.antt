@@ -1,12 +1,11 @@
 -- A completion with a register is `learn`; a theft is `release`, then `learn`: the victim's register goes through the empty pool.
-use Prim.Native.Nat.{ℕ, zero, suc, _+_, _-_, _≤_, _<_}
+use Prim.Native.Nat.{ℕ, zero, suc, _<_}
 use mathlib.Core.Path.{_≡_, refl, sym, ap, subst, _∙_}
-use mathlib.Core.Bool.{Bool, true, false, not}
-use mathlib.Core.List.{List, [], _∷_, _++_, map}
+use mathlib.Core.List.{List, [], _∷_, map}
 use native.Mathlib.Omega.{arith}
 use lib.Dec.{eqb}
 use lib.ListN.{length, getD, set, take, length-set}
-use lib.Seq.{getD-take, take-set-lt, getD-set-other, set-getD}
+use lib.Seq.{take-set-lt, getD-set-other, set-getD}
 use Rattle.isa.specs.Reads.{choose}
 use Rattle.tables.specs.Table.{lookUp, storeUnder}
 use Rattle.tables.specs.FreeList.{takenHead, takenLink}

@@ -12,6 +12,7 @@ pub mod Counting
 pub mod RegisterPools
 pub mod NamePools
 -- laws of the parts
+pub mod Stores
 pub mod Every
 pub mod LiveLaws
 pub mod Steps
@@ -40,12 +41,10 @@ pub mod Victims
 pub mod Rising
 pub mod Start
 -- the calls on the machine's arrays are changes of what the theorem sees
-pub mod Stores
 pub mod Kept
 pub mod Tidy
 pub mod Views
 pub mod Learns
-pub mod Victim
 pub mod Refusals
 pub mod Turns
 pub mod Accepts

@@ -16,16 +16,14 @@ use Rattle.tables.specs.declared.Entry.{Entry}
 use Rattle.agreement.proofs.Core.{Core, operandFor, nameIn}
 use Rattle.agreement.proofs.Chains.{renamingOf, Renamed, lastNames}
 use Rattle.agreement.proofs.Contents.{ShownIn, holding, without, stopped, early, HoldsIn}
-use Rattle.agreement.proofs.Pools.{nameOf, registerOf, NamePool, Live}
+use Rattle.agreement.proofs.Pools.{nameOf, registerOf}
 use Rattle.agreement.proofs.Invariant.{Invariant}
 use Rattle.agreement.proofs.Tests.{equal, apart, eq?}
 use Rattle.agreement.proofs.Counting.{same, alike, other, same?}
 use Rattle.agreement.proofs.RegisterPools.{pool-empty}
-use Rattle.agreement.proofs.NamePools.{fresh-is, fresh-some}
 use Rattle.agreement.proofs.Every.{all-at}
 use Rattle.agreement.proofs.Walks.{renamed-at}
 use Rattle.agreement.proofs.Learn.{no-register}
-use Rattle.agreement.proofs.Append.{name-left}
 
 -- a list of which not all are zero
 some-nonzero : (xs : List ℕ) → occurrences 0 xs + 1 ≤ length xs → (j : ℕ) × (j < length xs) × (getD xs j 0 ≢ 0)
@@ -57,16 +55,6 @@ pub record Holder (c : Core) (i : ℕ) : Type 0 where
   pub has : getD (c .physical) (getD (c .entries) position emptyEntry .name) 0 ≢ 0
 
 module _ (p : List ℕ) (s : State) (c : Core) (invariant : Invariant p s c) where
-  -- a window that is not full has a free name
-  pub name-free : length (c .entries) < c .setup .window → c .namehead ≢ 0
-  name-free space z =
-      let m = invariant .committed in
-      let a = invariant .accounting in
-      let f : (n : ℕ) × (ns : List ℕ) × NamePool (c .setup .window) m (map nameOf (c .entries)) (c .namehead) (c .namelink) (n ∷ ns) × Live (c .physical) m (map nameOf (c .entries)) (n ∷ ns) =
-      name-left (c .setup .window) (c .physical) m (map nameOf (c .entries)) (c .namehead) (c .namelink) (a .freeNames) (a .namePool) (a .live) (rw length-map space) in
-      fresh-some (c .setup .window) m (map nameOf (c .entries)) (c .namehead) (c .namelink) (f .0) (f .1) (f .2)
-      (sym (fresh-is (c .setup .window) m (map nameOf (c .entries)) (c .namehead) (c .namelink) (f .0) (f .1) (f .2)) ∙ z)
-
   -- an empty window is not full
   pub room-when-empty : length (c .entries) ≡ 0 → length (c .entries) < c .setup .window
   room-when-empty e = omega (arith, invariant .accounting .some)

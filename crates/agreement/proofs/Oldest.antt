@@ -1,40 +1,31 @@
 -- The oldest entry after each call that it needs.
-use Prim.Native.Nat.{ℕ, zero, suc, _+_, _-_, _≤_, _<_}
-use mathlib.Core.Path.{_≡_, refl, sym, ap, subst, _∙_}
-use mathlib.Core.Logic.{_≢_}
-use mathlib.Core.Bool.{Bool, true, false, not, _&&_}
-use mathlib.Core.List.{List, [], _∷_}
+use Prim.Native.Nat.{ℕ, zero, suc, _+_, _-_, _<_}
+use mathlib.Core.Path.{_≡_, refl, ap, _∙_}
+use mathlib.Core.List.{List}
 use native.Mathlib.Omega.{arith}
-use borrow.Author.Tests.{eq-eqb, ne-eqb}
 use lib.Dec.{eqb}
 use lib.ListN.{length, getD, set, length-set}
 use lib.Seq.{getD-set-same, getD-set-other}
-use Rattle.isa.specs.Reads.{choose}
-use Rattle.laws.proofs.Bools.{impossible}
-use Rattle.reference.specs.Execute.{stop, onward}
 use Rattle.reference.specs.Fetch.{FetchNumbers, fetchAt}
-use Rattle.reference.specs.Roles.{loads}
-use Rattle.reference.specs.Step.{State}
 use Rattle.reference.specs.declared.Stop.{Stop}
 use Rattle.reference.specs.declared.Outcome.{Outcome}
-use Rattle.tables.specs.Entry.{emptyEntry, isIssued, held, completedEntry, stoppedEntry, predictedEntry, waitingEntry, wakeEntry, sleepEntry, issuedEntry}
-use Rattle.tables.specs.Operand.{isReady}
+use Rattle.tables.specs.Entry.{emptyEntry, completedEntry, stoppedEntry, predictedEntry, waitingEntry, wakeEntry, sleepEntry}
 use Rattle.tables.specs.declared.State.{State as Stage}
 use Rattle.tables.specs.declared.State.the-variants.{Waits, Issued, Completed}
 use Rattle.tables.specs.declared.Entry.{Entry}
-use Rattle.window.specs.Call.{entryAt, place, changeFirst, lentRefusal}
+use Rattle.window.specs.Call.{entryAt, place}
 use Rattle.window.specs.Drop.{dropYoungest, dropMany, dropTo}
-use Rattle.window.specs.Decode.{enteringCause, startedEntry, endedEntry, entryFor, enter, decoded}
-use Rattle.window.specs.Issue.{storeBelow, issued}
+use Rattle.window.specs.Decode.{enteringCause, startedEntry, endedEntry, enter, decoded}
+use Rattle.window.specs.Issue.{issued}
 use Rattle.window.specs.Complete.{outcomeAt, victimOf, noneFree, registerFor, suppliedFor, robbed, learned, registered, refetched, redirected, completed}
 use Rattle.window.specs.declared.Machine.{Machine}
 use Rattle.window.proofs.DropLaws.{drop-count}
 use Rattle.agreement.proofs.Stores.{change-length}
 use Rattle.agreement.proofs.Turns.{At}
-use Rattle.agreement.proofs.Refusals.{by-choose}
+use Rattle.agreement.proofs.Tests.{by-choice}
 use Rattle.agreement.proofs.Views.{drops-count}
 use Rattle.agreement.proofs.Learns.{changed-at}
-use Rattle.agreement.proofs.Steady.{Steady, steady-drops}
+use Rattle.agreement.proofs.Steady.{steady-drops}
 
 -- entries older than those dropped stay
 drop-entry : (m : Machine) (j : ℕ) → j < m .count - 1 → entryAt (dropYoungest m) j ≡ entryAt m j
@@ -92,7 +83,7 @@ redirected-at next m room a =
     let h = a .there in
     let c = drops-count n m in
     let l = drops-length n m in
-    by-choose (λ (x : Machine). At x 0 Completed) (eqb next (entryAt m 0 .predicted)) m (refetched 0 next (dropTo 1 m)) (λ e. a) (λ e.
+    by-choice (λ (x : Machine). At x 0 Completed) (eqb next (entryAt m 0 .predicted)) m (refetched 0 next (dropTo 1 m)) (λ e. a) (λ e.
     refetched-at (dropTo 1 m) (omega arith) next (record {
       runs = ap (λ (x : Stop). x .cause) (steady-drops n m .halt) ∙ a .runs;
       there = omega arith;
@@ -132,8 +123,8 @@ record Registered (m : Machine) : Type 0 where
 registered-at : (result : ℕ) (m : Machine) → Runs m → Registered (registered 0 result m)
 registered-at result m r =
     let e : Entry = completedEntry 0 (entryAt m 0) in
-    let supplied : Runs (suppliedFor m 0) = by-choose Runs (noneFree m) (robbed (victimOf m 0) m) m (λ x. robbed-runs (victimOf m 0) m r) (λ x. r) in
-    by-choose Registered (eqb (entryAt m 0 .destination) 0) (place 0 e m) (learned 0 (registerFor m 0) result (suppliedFor m 0))
+    let supplied : Runs (suppliedFor m 0) = by-choice Runs (noneFree m) (robbed (victimOf m 0) m) m (λ x. robbed-runs (victimOf m 0) m r) (λ x. r) in
+    by-choice Registered (eqb (entryAt m 0 .destination) 0) (place 0 e m) (learned 0 (registerFor m 0) result (suppliedFor m 0))
     (λ x. record { at = placed-at m (r .room) e Completed (r .runs) (r .there) refl; room = let l = length-set (m .entries) 0 e in let h = r .room in omega arith })
     (λ x. record { at = learned-at (suppliedFor m 0) (supplied .room) (registerFor m 0) result (supplied .runs) (supplied .there); room = learned-runs 0 (registerFor m 0) result (suppliedFor m 0) supplied .room })
 
@@ -142,7 +133,7 @@ completed-at m room a =
     let o : Outcome = outcomeAt m 0 in
     let e : Entry = stoppedEntry (o .stop) (entryAt m 0) in
     let r : Registered (registered 0 (o .result) m) = registered-at (o .result) m (record { runs = a .runs; there = a .there; room = room }) in
-    by-choose (λ (x : Machine). At x 0 Completed) (eqb (o .stop .cause) 0) (redirected 0 (o .next) (registered 0 (o .result) m)) (place 0 e m)
+    by-choice (λ (x : Machine). At x 0 Completed) (eqb (o .stop .cause) 0) (redirected 0 (o .next) (registered 0 (o .result) m)) (place 0 e m)
     (λ x. redirected-at (o .next) (registered 0 (o .result) m) (r .room) (r .at)) (λ x. placed-at m room e Completed (a .runs) (a .there) refl)
 
 -- the first entry of an empty window
@@ -164,4 +155,4 @@ decoded-at program guess m room r z =
     let f : FetchNumbers = fetchAt program (m .fetch) in
     let started : Entry = startedEntry m (f .fields) guess in
     let over : Entry = endedEntry (m .fetch) (f .fields) (enteringCause f) in
-    by-choose (λ (e : Entry). Entered (enter e m)) (eqb (enteringCause f) 0) started over (λ x. waiting (entered-at started m Waits room r z refl)) (λ x. ended (entered-at over m Completed room r z refl))
+    by-choice (λ (e : Entry). Entered (enter e m)) (eqb (enteringCause f) 0) started over (λ x. waiting (entered-at started m Waits room r z refl)) (λ x. ended (entered-at over m Completed room r z refl))

@@ -1,25 +1,21 @@
 -- Unless halted, at most four further calls are all accepted and the last is a commit.
-use Prim.Native.Nat.{ℕ, zero, suc, _+_, _-_, _≤_, _<_}
+use Prim.Native.Nat.{ℕ, suc, _+_, _<_}
 use mathlib.Core.Path.{_≡_, refl, sym, ap, subst, _∙_}
-use mathlib.Core.Logic.{_≢_}
-use mathlib.Core.Bool.{Bool, true, false, not, _&&_}
-use mathlib.Core.List.{List, [], _∷_}
+use mathlib.Core.Bool.{Bool, true, false, _&&_}
+use mathlib.Core.List.{List}
 use native.Mathlib.Omega.{arith}
 use borrow.Author.Tests.{eq-eqb, ne-eqb}
-use lib.Dec.{eqb}
 use lib.ListN.{length, getD}
 use Rattle.isa.specs.Reads.{choose}
 use Rattle.laws.proofs.Bools.{impossible}
-use Rattle.reference.specs.Execute.{stop, onward}
+use Rattle.reference.specs.Execute.{onward}
 use Rattle.reference.specs.Roles.{loads}
 use Rattle.reference.specs.Step.{State}
-use Rattle.reference.specs.declared.Stop.{Stop}
-use Rattle.tables.specs.Entry.{emptyEntry, isIssued, held}
+use Rattle.tables.specs.Entry.{emptyEntry, isIssued}
 use Rattle.tables.specs.Operand.{isReady}
 use Rattle.tables.specs.declared.State.{State as Stage}
 use Rattle.tables.specs.declared.State.the-variants.{Waits, Issued, Completed}
 use Rattle.tables.specs.declared.Entry.{Entry}
-use Rattle.window.specs.Range.{machineInRange}
 use Rattle.window.specs.Call.{entryAt, lentRefusal}
 use Rattle.window.specs.Decode.{decoded}
 use Rattle.window.specs.Issue.{storeBelow, issued}
@@ -27,16 +23,14 @@ use Rattle.window.specs.Complete.{completed}
 use Rattle.window.specs.declared.Machine.{Machine}
 use Rattle.agreement.specs.Lists.{Call, decode, issue, complete, commit, own, World, Made, madeBy, callOf, make, isCommit, acceptedCommit, neededBy, needed, CommitsWithin}
 use Rattle.agreement.proofs.Core.{Core, coreOf}
-use Rattle.agreement.proofs.Invariant.{Invariant, Emptied}
-use Rattle.agreement.proofs.Tests.{Eq?, equal, apart, eq?}
+use Rattle.agreement.proofs.Invariant.{Invariant}
+use Rattle.agreement.proofs.Tests.{equal, apart, eq?}
 use Rattle.agreement.proofs.Liveness.{Holder, room-when-empty, left-ready, right-ready, holder}
 use Rattle.agreement.proofs.Victims.{held-completed}
-use Rattle.agreement.proofs.Runs.{ran}
 use Rattle.agreement.proofs.Views.{seen-length, seen-entry}
 use Rattle.agreement.proofs.Turns.{At}
 use Rattle.agreement.proofs.Accepts.{none-lent, decode-accepted, issue-accepted, complete-accepted, commit-accepted, Supplied, needless, free, younger, supplied-none}
 use Rattle.agreement.proofs.InRange.{in-range}
-use Rattle.agreement.proofs.Fits.{Fit}
 use Rattle.agreement.proofs.Safe.{Safe, alive, dead, Reached, make-reached}
 use Rattle.agreement.proofs.Ranged.{alive-range}
 use Rattle.agreement.proofs.Oldest.{issued-at, completed-at, Entered, waiting, ended, decoded-at}

@@ -22,23 +22,22 @@ use Rattle.reference.specs.Roles.{causeAtOnce}
 use Rattle.reference.specs.Step.{State, Step, firstSource, secondSource, firstOf, secondOf, reached, stoppedAt, settled, destination, writeRegister, stepWith, stepOf}
 use Rattle.reference.specs.declared.Stop.{Stop}
 use Rattle.reference.specs.declared.Outcome.{Outcome}
-use Rattle.reference.proofs.FetchLaws.{Missing, fetched-accepted, fetched-missing}
+use Rattle.reference.proofs.FetchLaws.{fetched-accepted, fetched-missing}
 use Rattle.reference.proofs.OutcomeLaws.{executed-proper, executed-ends}
 use Rattle.tables.specs.Table.{lookUp}
 use Rattle.tables.specs.FreeList.{Spells, occurrences}
 use Rattle.tables.specs.Entry.{emptyEntry, isWaiting, isIssued}
 use Rattle.tables.specs.declared.Operand.{Operand}
-use Rattle.tables.specs.declared.State.the-variants.{Waits, Issued, Completed}
+use Rattle.tables.specs.declared.State.the-variants.{Completed}
 use Rattle.tables.specs.declared.Entry.{Entry}
-use Rattle.window.specs.Machine.{namesOf}
 use Rattle.window.specs.Range.{setupInRange, operandInRange, isNone}
 use Rattle.window.specs.Decode.{enteringCause}
 use Rattle.agreement.proofs.Core.{Core, operandFor, nameIn}
 use Rattle.agreement.proofs.Ghost.{Ghost}
-use Rattle.agreement.proofs.Chains.{renamingOf, Renamed, lastNames, executionOf, Executable, Status, waits, reads, done, stops, Executes}
+use Rattle.agreement.proofs.Chains.{renamingOf, Renamed, lastNames, executionOf, Status, waits, reads, done, stops, Executes}
 use Rattle.agreement.proofs.Contents.{All, ShownIn}
 use Rattle.agreement.proofs.Invariant.{Accounting, Invariant, Emptied}
-use Rattle.agreement.proofs.Tests.{Eq?, equal, apart, eq?}
+use Rattle.agreement.proofs.Tests.{equal, apart, eq?, by-choice}
 use Rattle.agreement.proofs.Counting.{count-is}
 use Rattle.agreement.proofs.RegisterPools.{register-range}
 use Rattle.agreement.proofs.NamePools.{name-range}
@@ -49,7 +48,6 @@ use Rattle.agreement.proofs.Walks.{namesAt, stateAt, executes-at, last-
 use Rattle.agreement.proofs.Steps.{step-executable}
 use Rattle.agreement.proofs.Stores.{look-get}
 use Rattle.agreement.proofs.Tidied.{accounted-renamed}
-use Rattle.agreement.proofs.Refusals.{by-choose}
 use Rattle.agreement.proofs.InRange.{Readable, encodable, missing, EntryInRange, InRange, operand-in-range}
 
 -- a chain whose numbers are in range
@@ -162,7 +160,7 @@ outcomeIn s i = executed (length (s .memory)) i (s .address) (firstOf s i) (seco
 
 settled-cause : (s : State) (i : Instruction) (memory : List ℕ) (o : Outcome) → o .stop .cause ≤ 7 → settled s i memory o .stop .cause ≤ 7
 settled-cause s i memory o h =
-    by-choose (λ (x : Step). x .stop .cause ≤ 7) (eqb (o .stop .cause) 0) (reached (writeRegister (s .registers) (destination i) (o .result)) (o .next) memory (stop 0)) (stoppedAt s (o .stop)) (λ e. omega arith) (λ e. h)
+    by-choice (λ (x : Step). x .stop .cause ≤ 7) (eqb (o .stop .cause) 0) (reached (writeRegister (s .registers) (destination i) (o .result)) (o .next) memory (stop 0)) (stoppedAt s (o .stop)) (λ e. omega arith) (λ e. h)
 
 with-cause : (i : Instruction) (s : State) → stepWith i s .stop .cause ≤ 7
 unfolding stepWith
@@ -178,7 +176,7 @@ pub step-cause : (program : List ℕ) (s : State) → stepOf program s .stop .ca
 unfolding stepOf
 step-cause program s =
     let f : FetchNumbers = fetchAt program (s .address) in
-    by-choose (λ (x : Step). x .stop .cause ≤ 7) (f .found) (stepWith (f .fields) s) (stoppedAt s (stop (f .cause))) (λ e. with-cause (f .fields) s) (λ e. four (f .cause) (fetched-missing program (s .address) e .cause) .0)
+    by-choice (λ (x : Step). x .stop .cause ≤ 7) (f .found) (stepWith (f .fields) s) (stoppedAt s (stop (f .cause))) (λ e. with-cause (f .fields) s) (λ e. four (f .cause) (fetched-missing program (s .address) e .cause) .0)
 
 settled-calm : (s : State) (i : Instruction) (memory : List ℕ) (o : Outcome) → settled s i memory o .stop .cause ≡ 0 → o .stop .cause ≡ 0
 settled-calm s i memory o = at (eqb (o .stop .cause) 0) refl

@@ -1,14 +1,13 @@
 -- Refusals in order: where none applies, each test fails.
-use Prim.Native.Nat.{ℕ, zero, suc}
+use Prim.Native.Nat.{ℕ}
 use mathlib.Core.Path.{_≡_, refl, sym, ap, _∙_}
 use mathlib.Core.Bool.{Bool, true, false, not, _&&_}
 use mathlib.Core.List.{List, [], _∷_}
-use native.Mathlib.Omega.{arith}
-use borrow.Author.Tests.{eqb-true, eqb-false, eq-eqb, ne-eqb, not-true, not-false}
+use borrow.Author.Tests.{eqb-true, eqb-false, eq-eqb, ne-eqb, not-false}
 use lib.Dec.{eqb}
 use Rattle.isa.specs.Reads.{choose}
 use Rattle.reference.specs.Step.{when, first}
-use Rattle.laws.proofs.Bools.{impossible, and-left, and-right}
+use Rattle.laws.proofs.Bools.{impossible}
 use Rattle.window.specs.Call.{inTurn}
 
 pub record Passed (b : Bool) (rest : List ℕ) : Type 0 where
@@ -59,7 +58,3 @@ no-some n e = rw (eq-eqb n 0 e)
 pub and-false : (a b : Bool) → a && b ≡ false → a ≡ true → b ≡ false
 and-false true b e h = e
 and-false false b e h = impossible h
-
-pub by-choose : {A : Type 0} (P : A → Type 0) (b : Bool) (x y : A) → (b ≡ true → P x) → (b ≡ false → P y) → P (choose b x y)
-by-choose P true x y f g = f refl
-by-choose P false x y f g = g refl

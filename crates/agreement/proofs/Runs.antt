@@ -1,10 +1,10 @@
 -- The in-order run, one commit further.
-use Prim.Native.Nat.{ℕ, zero, suc, _+_}
-use mathlib.Core.Path.{_≡_, refl, sym, ap, _∙_}
+use Prim.Native.Nat.{ℕ, _+_}
+use mathlib.Core.Path.{_≡_, refl, ap, _∙_}
 use mathlib.Core.List.{List}
 use native.Mathlib.Nat.{add-zero}
 use Rattle.reference.specs.Execute.{stop}
-use Rattle.reference.specs.Run.{Run, ended, after, runOf}
+use Rattle.reference.specs.Run.{Run, after, runOf}
 use Rattle.reference.specs.Statement.{continued}
 use Rattle.reference.specs.Step.{State, stepOf}
 use Rattle.reference.specs.declared.Stop.{Stop}

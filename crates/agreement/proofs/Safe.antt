@@ -1,11 +1,9 @@
 -- After every list of calls: the machine runs and keeps the invariant at the in-order state of as many steps, or it halted where the in-order run stopped.
-use Prim.Native.Nat.{ℕ, zero, suc, _+_, _-_, _≤_, _<_}
+use Prim.Native.Nat.{ℕ, _+_}
 use mathlib.Core.Path.{_≡_, refl, sym, ap, subst, _∙_}
 use mathlib.Core.Logic.{_≢_}
-use mathlib.Core.Bool.{Bool, true, false}
 use mathlib.Core.List.{List, [], _∷_}
 use native.Mathlib.Nat.{add-zero, add-assoc}
-use native.Mathlib.Omega.{arith}
 use borrow.Author.Tests.{ne-eqb}
 use lib.Dec.{eqb}
 use lib.ListN.{length, getD}
@@ -13,7 +11,7 @@ use Rattle.isa.specs.Reads.{choose}
 use Rattle.reference.specs.Execute.{stop}
 use Rattle.reference.specs.Fetch.{FetchNumbers, fetchAt}
 use Rattle.reference.specs.Memory.{stored}
-use Rattle.reference.specs.Run.{Run, runOf}
+use Rattle.reference.specs.Run.{runOf}
 use Rattle.reference.specs.Step.{State, Step, stoppedAt, stepWith, stepOf}
 use Rattle.reference.specs.declared.Stop.{Stop}
 use Rattle.reference.proofs.Laws.{statement}
@@ -21,17 +19,16 @@ use Rattle.tables.specs.Entry.{stoppedEntry, completedEntry, held}
 use Rattle.tables.specs.declared.Entry.{Entry}
 use Rattle.window.specs.Call.{entryAt, place}
 use Rattle.window.specs.Drop.{dropTo}
-use Rattle.window.specs.Decode.{entryFor, decoded}
-use Rattle.window.specs.Issue.{issued}
-use Rattle.window.specs.Complete.{outcomeAt, robbed, learned, redirected}
-use Rattle.window.specs.Commit.{haltedBy, retired}
+use Rattle.window.specs.Decode.{entryFor}
+use Rattle.window.specs.Complete.{outcomeAt, robbed, learned}
+use Rattle.window.specs.Commit.{haltedBy}
 use Rattle.window.specs.declared.Machine.{Machine}
 use Rattle.agreement.specs.Lists.{Call, decode, issue, complete, commit, Event, World, Made, madeBy, make, makeAll, isCommit, callIn, acceptedCommit, acceptedCommits}
 use Rattle.agreement.proofs.Core.{coreOf}
 use Rattle.agreement.proofs.Invariant.{Invariant, Emptied}
 use Rattle.agreement.proofs.Runs.{ran, run-on, run-ends}
-use Rattle.agreement.proofs.Turns.{At, Goes, Turn, refused, enters, issues, ends, settles, takes, steals, retires, halts, turn}
-use Rattle.agreement.proofs.Refusals.{by-choose}
+use Rattle.agreement.proofs.Turns.{Turn, refused, enters, issues, ends, settles, takes, steals, retires, halts, turn}
+use Rattle.agreement.proofs.Tests.{by-choice}
 use Rattle.agreement.proofs.Decodes.{decode-machine-keeps, issue-machine-keeps}
 use Rattle.agreement.proofs.Completes.{stop-machine-keeps, settle-machine-keeps, take-machine-keeps, steal-machine-keeps}
 use Rattle.agreement.proofs.Commits.{halted-emptied, halt-machine-stops, retire-machine-steps, retire-machine-stores, retire-machine-keeps}
@@ -60,7 +57,7 @@ pub step-zero : (program : List ℕ) (s : State) → getD (s .registers) 0 0 ≡
 unfolding stepOf
 step-zero program s z =
     let f : FetchNumbers = fetchAt program (s .address) in
-    by-choose (λ (x : Step). getD (x .state .registers) 0 0 ≡ 0) (f .found) (stepWith (f .fields) s) (stoppedAt s (stop (f .cause))) (λ e. statement .zero-kept (f .fields) s ∙ z) (λ e. z)
+    by-choice (λ (x : Step). getD (x .state .registers) 0 0 ≡ 0) (f .found) (stepWith (f .fields) s) (stoppedAt s (stop (f .cause))) (λ e. statement .zero-kept (f .fields) s ∙ z) (λ e. z)
 
 module _ (program : List ℕ) (start : State) (n : ℕ) (w : World) (f : Fit program w) where
   abbrev m : Machine

@@ -1,6 +1,6 @@
 -- Set-up's numbers never change, and the halt changes only where the machine halts.
 use Prim.Native.Nat.{ℕ, zero, suc, _-_}
-use mathlib.Core.Path.{_≡_, refl, sym, ap, subst, _∙_}
+use mathlib.Core.Path.{_≡_, refl, _∙_}
 use mathlib.Core.Bool.{Bool, true, false}
 use lib.Dec.{eqb}
 use Rattle.isa.specs.Reads.{choose}

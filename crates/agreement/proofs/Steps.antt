@@ -7,7 +7,7 @@ use mathlib.Core.List.{List}
 use native.Mathlib.Omega.{arith}
 use borrow.Author.Tests.{eq-eqb, ne-eqb}
 use lib.Dec.{T, eqb}
-use lib.ListN.{length, getD, set, replicate}
+use lib.ListN.{length, getD, replicate}
 use lib.Seq.{getD-set-same}
 use Rattle.laws.proofs.Table.{at}
 use Rattle.isa.specs.Listing.{Format, R, I, S, B, U, J, Shift, Whole, formatOf}
@@ -16,10 +16,10 @@ use Rattle.isa.specs.declared.Instruction.{Instruction}
 use Rattle.isa.proofs.ReadLaws.{legal-word, operation-kept}
 use Rattle.reference.specs.Actions.{Action, Computes, LoadsSigned, LoadsUnsigned, Stores, Stops, actionOf}
 use Rattle.reference.specs.Memory.{accessible, secondBy, secondValue, storedBy, stored}
-use Rattle.reference.specs.Execute.{stop, stops, executedBy, executed}
+use Rattle.reference.specs.Execute.{stop, executedBy, executed}
 use Rattle.reference.specs.Roles.{loadsBy, loads, storesBy, stores, causeBy, causeAtOnce}
 use Rattle.reference.specs.Fetch.{FetchNumbers, noInstruction, ofReading, fetchAt}
-use Rattle.reference.specs.Step.{State, Step, state, firstSource, secondSource, destination, readRegister, writeRegister, reached, stoppedAt, settled, firstOf, secondOf, stepWith, stepOf}
+use Rattle.reference.specs.Step.{State, Step, firstSource, secondSource, destination, readRegister, writeRegister, reached, stoppedAt, settled, firstOf, secondOf, stepWith, stepOf}
 use Rattle.reference.specs.declared.Stop.{Stop}
 use Rattle.reference.specs.declared.Outcome.{Outcome}
 use Rattle.reference.proofs.StepLaws.{choose-either, step-registers}
@@ -239,7 +239,3 @@ unfolding stepOf
 step-unstored program s e =
     choose-either (λ (x : Step). x .state .memory) (fetchAt program (s .address) .found) (stepWith (fetchAt program (s .address) .fields) s) (stoppedAt s (stop (fetchAt program (s .address) .cause))) (s .memory)
     (with-unstored (fetchAt program (s .address) .fields) s e) refl
-
--- a stopped step changes nothing
-pub step-kept : (program : List ℕ) (s : State) → stepOf program s .stop .cause ≢ 0 → stepOf program s .state ≡ s
-step-kept program s z = statement .stopped program s z

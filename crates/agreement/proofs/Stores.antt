@@ -1,15 +1,15 @@
 -- The tables' functions against plain reading and writing of lists, where index 0 holds 0.
-use Prim.Native.Nat.{ℕ, zero, suc, _+_, _-_, _≤_, _<_}
+use Prim.Native.Nat.{ℕ, zero, suc}
 use mathlib.Core.Path.{_≡_, refl, sym, ap, _∙_}
 use mathlib.Core.Bool.{Bool, true, false, not}
-use mathlib.Core.List.{List, [], _∷_, _++_, map}
+use mathlib.Core.List.{List, [], _∷_, map}
 use native.Mathlib.Omega.{arith}
-use borrow.Author.Tests.{eq-eqb, ne-eqb, eqb-true, eqb-false}
+use borrow.Author.Tests.{ne-eqb, eqb-true}
 use lib.Dec.{eqb}
-use lib.ListN.{length, getD, set, take, drop, length-set, length-drop, length-append}
-use lib.Seq.{set-getD, length-take-le}
+use lib.ListN.{length, getD, set, take}
+use lib.Seq.{set-getD}
 use Rattle.isa.specs.Reads.{choose}
-use Rattle.tables.specs.Table.{lookUnder, lookUp, lookValid, storeUnder}
+use Rattle.tables.specs.Table.{lookUnder, lookUp, storeUnder}
 use Rattle.tables.specs.FreeList.{freedHead, freedLink}
 use Rattle.tables.specs.Operand.{wake, sleep, shownOperand}
 use Rattle.tables.specs.Entry.{wakeEntry, sleepEntry}

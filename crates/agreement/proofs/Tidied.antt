@@ -2,8 +2,7 @@
 use Prim.Native.Nat.{ℕ, _<_}
 use mathlib.Core.Path.{_≡_, refl, sym, ap, _∙_}
 use mathlib.Core.Logic.{_≢_}
-use mathlib.Core.List.{List, map}
-use native.Mathlib.Omega.{arith}
+use mathlib.Core.List.{List}
 use lib.ListN.{length, getD, take}
 use Rattle.tables.specs.Table.{lookUp}
 use Rattle.tables.specs.Entry.{emptyEntry, heldIn, held}
@@ -13,9 +12,8 @@ use Rattle.tables.specs.declared.Entry.{Entry}
 use Rattle.agreement.proofs.Core.{Core}
 use Rattle.agreement.proofs.Ghost.{Ghost}
 use Rattle.agreement.proofs.Chains.{renamingOf, Renamed}
-use Rattle.agreement.proofs.Contents.{Holds, holding, without, stopped, early, HoldsIn}
+use Rattle.agreement.proofs.Contents.{holding, without, stopped, early, HoldsIn}
 use Rattle.agreement.proofs.Invariant.{Accounting}
-use Rattle.agreement.proofs.Tests.{Eq?, equal, apart, eq?, impossible}
 use Rattle.agreement.proofs.Every.{all-at}
 use Rattle.agreement.proofs.Walks.{namesAt, renamed-at, renamed-take, zero-last}
 use Rattle.agreement.proofs.Entering.{zero-named}

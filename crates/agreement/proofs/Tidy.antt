@@ -1,9 +1,9 @@
 -- What lets a write at index 0 stand for no write: tables hold 0 there, and an entry without a destination has no names.
-use Prim.Native.Nat.{ℕ, zero, suc, _+_, _-_, _≤_, _<_}
+use Prim.Native.Nat.{ℕ, zero, suc, _<_}
 use mathlib.Core.Path.{_≡_, refl, sym, ap, subst, _∙_}
 use mathlib.Core.List.{List, [], _∷_}
 use native.Mathlib.Omega.{arith}
-use lib.ListN.{length, getD, set, take, length-take}
+use lib.ListN.{length, getD, set, take}
 use lib.Seq.{getD-take, length-take-le}
 use Rattle.tables.specs.Table.{lookUp}
 use Rattle.tables.specs.Entry.{emptyEntry, heldIn, held}

@@ -1,21 +1,18 @@
 -- How a call can end: the tests are walked here and nowhere else.
-use Prim.Native.Nat.{ℕ, zero, suc, _+_, _-_, _≤_, _<_}
-use mathlib.Core.Path.{_≡_, refl, sym, ap, subst, _∙_}
+use Prim.Native.Nat.{ℕ, suc, _-_, _<_}
+use mathlib.Core.Path.{_≡_, refl, sym, ap, _∙_}
 use mathlib.Core.Bool.{Bool, true, false, not, _&&_}
 use mathlib.Core.List.{List, [], _∷_}
 use native.Mathlib.Omega.{arith}
-use borrow.Author.Tests.{eqb-true, eqb-false, eq-eqb, ne-eqb, not-true, not-false, leb-true, leb-false}
+use borrow.Author.Tests.{eqb-true, eqb-false, not-false, leb-false}
 use lib.Dec.{eqb, leb}
-use lib.ListN.{length, getD}
 use Rattle.isa.specs.Reads.{choose}
 use Rattle.reference.specs.Memory.{stored}
-use Rattle.reference.specs.Roles.{loads, stores}
-use Rattle.reference.specs.Step.{when, first}
-use Rattle.reference.specs.declared.Stop.{Stop}
-use Rattle.reference.specs.declared.Outcome.{Outcome}
+use Rattle.reference.specs.Roles.{loads}
+use Rattle.reference.specs.Step.{when}
 use Rattle.laws.proofs.Bools.{impossible, and-left, and-right}
 use Rattle.tables.specs.Operand.{isReady}
-use Rattle.tables.specs.Entry.{emptyEntry, isWaiting, isIssued, isCompleted, stoppedEntry, completedEntry, held}
+use Rattle.tables.specs.Entry.{isWaiting, isIssued, isCompleted, stoppedEntry, completedEntry, held}
 use Rattle.tables.specs.declared.State.{State as Stage}
 use Rattle.tables.specs.declared.State.the-variants.{Waits, Issued, Completed}
 use Rattle.tables.specs.declared.Entry.{Entry}
@@ -24,13 +21,13 @@ use Rattle.window.specs.Call.{entryAt, place, halted, noEntry, lengthsDiffer, l
 use Rattle.window.specs.Drop.{dropTo}
 use Rattle.window.specs.Decode.{decodeRefusal, decoded, decodeOf}
 use Rattle.window.specs.Issue.{storeBelow, unready, issueRefusal, issued, issueOf}
-use Rattle.window.specs.Complete.{outcomeAt, victimOf, noVictim, needsRegister, noneFree, completeRefusal, robbed, learned, registered, redirected, completed, completeOf}
+use Rattle.window.specs.Complete.{outcomeAt, victimOf, noVictim, needsRegister, noneFree, completeRefusal, robbed, learned, redirected, completed, completeOf}
 use Rattle.window.specs.Commit.{commitRefusal, haltedBy, retired, committed, writtenBy, Commit, commitBy, commitOf}
 use Rattle.window.specs.declared.Machine.{Machine}
 use Rattle.window.specs.declared.Answer.{Answer}
 use Rattle.agreement.specs.Lists.{Call, decode, issue, complete, commit, Event, own, other, World, Made, madeBy, callOf, aside, make, callIn}
-use Rattle.agreement.proofs.Refusals.{Passed, none-first, BothPass, in-turn, in-turn-lent, is-zero, and-false, by-choose}
-use Rattle.agreement.proofs.Victim.{Younger, victim-of}
+use Rattle.agreement.proofs.Refusals.{none-first, in-turn, in-turn-lent, is-zero, and-false}
+use Rattle.agreement.proofs.Victims.{victim-is}
 
 -- the machine runs and has an entry there, in this state
 pub record At (m : Machine) (i : ℕ) (s : Stage) : Type 0 where
@@ -138,9 +135,9 @@ module _ (program : List ℕ) (w : World) where
   complete-at i h free true false true ea eb ec =
       let needs : needsRegister m i && noneFree m ≡ true = rw (ea, eb, ec) in
       let v : ℕ = victimOf m i in
-      let y = victim-of m i (h .there) (eqb-false v i (and-false (needsRegister m i && noneFree m) (noVictim m i) free needs)) in
+      let y = victim-is (m .count - suc i) (m .physical) (m .entries) i (eqb-false v i (and-false (needsRegister m i && noneFree m) (noVictim m i) free needs)) in
       steals i v refl (record { at = h; calm = eqb-true (outcomeAt m i .stop .cause) 0 ea }) (eqb-false (entryAt m i .destination) 0 eb) (eqb-true (m .registerhead) 0 ec)
-      (y .younger) (let l = y .within in let t = h .there in omega arith) (y .holds) refl
+      (y .0) (omega (arith, y .1, h .there)) (y .2) refl
 
   complete-turn : (i : ℕ) → Turn program w (complete i) (callOf program (w .memory) (complete i) m)
   unfolding completeOf completeRefusal

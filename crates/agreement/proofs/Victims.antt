@@ -1,6 +1,6 @@
 -- The search for a victim finds a holder where there is one, and nothing else.
 use Prim.Native.Nat.{ℕ, zero, suc, _+_, _≤_, _<_}
-use mathlib.Core.Path.{_≡_, refl, sym, _∙_}
+use mathlib.Core.Path.{_≡_, refl, _∙_}
 use mathlib.Core.Logic.{_≢_}
 use mathlib.Core.Bool.{Bool, true, false}
 use mathlib.Core.List.{List}
@@ -14,13 +14,9 @@ use Rattle.tables.specs.Entry.{emptyEntry, heldIn, held}
 use Rattle.tables.specs.declared.State.{State as Stage}
 use Rattle.tables.specs.declared.State.the-variants.{Waits, Issued, Completed}
 use Rattle.tables.specs.declared.Entry.{Entry}
-use Rattle.tables.proofs.TableLaws.{look-within, look-zero}
 use Rattle.window.specs.Complete.{victimAmong}
 use Rattle.agreement.proofs.Tests.{equal, apart, eq?}
-
--- what is read by number, 0 having nothing, is what the list has, if that has nothing under 0
-pub look-list : (table : List ℕ) (n : ℕ) → getD table 0 0 ≡ 0 → lookUp table n ≡ getD table n 0
-look-list table n z = elim (eq? n 0) [ equal e t ↦ sym (look-zero table n e) ∙ rw e (sym z) | apart e t ↦ sym (look-within table n e) ]
+use Rattle.agreement.proofs.Stores.{look-get}
 
 -- what an entry holds, by its state and the map
 pub held-some : (physical : List ℕ) (e : Entry) → getD physical 0 0 ≡ 0 → held physical e ≢ 0 → (e .state ≡ Completed) × (getD physical (e .name) 0 ≢ 0)
@@ -29,10 +25,10 @@ held-some physical e z h = cases (e .state) refl h
     cases : (t : Stage) → e .state ≡ t → heldIn t (lookUp physical (e .name)) ≢ 0 → (e .state ≡ Completed) × (getD physical (e .name) 0 ≢ 0)
     cases Waits q f = absurd (f refl)
     cases Issued q f = absurd (f refl)
-    cases Completed q f = (q, λ y. f (look-list physical (e .name) z ∙ y))
+    cases Completed q f = (q, λ y. f (look-get physical (e .name) z ∙ y))
 
 pub held-completed : (physical : List ℕ) (e : Entry) → getD physical 0 0 ≡ 0 → e .state ≡ Completed → held physical e ≡ getD physical (e .name) 0
-held-completed physical e z h = rw h (look-list physical (e .name) z)
+held-completed physical e z h = rw h (look-get physical (e .name) z)
 
 pub victim-is : (n : ℕ) (physical : List ℕ) (entries : List Entry) (position : ℕ) → victimAmong n physical entries position ≢ position
     → (position < victimAmong n physical entries position) × (victimAmong n physical entries position ≤ position + n) × (held physical (getD entries (victimAmong n physical entries position) emptyEntry) ≢ 0)

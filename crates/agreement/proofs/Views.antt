@@ -1,8 +1,8 @@
 -- Each change of the machine is a change of the machine as the theorem sees it.
 use Prim.Native.Nat.{ℕ, zero, suc, _+_, _-_, _≤_, _<_}
 use mathlib.Core.Path.{_≡_, refl, sym, ap, subst, _∙_}
-use mathlib.Core.Bool.{Bool, true, false, not}
-use mathlib.Core.List.{List, [], _∷_, _++_, map}
+use mathlib.Core.Bool.{Bool, true, false}
+use mathlib.Core.List.{List, [], _∷_, _++_}
 use native.Mathlib.Omega.{arith}
 use borrow.Author.Tests.{eq-eqb, ne-eqb}
 use lib.Dec.{eqb}
@@ -11,21 +11,21 @@ use lib.Seq.{getD-take, take-take, take-set-le, take-set-lt, take-suc-set, take-
 use Rattle.isa.specs.Reads.{choose}
 use Rattle.reference.specs.declared.Stop.{Stop}
 use Rattle.tables.specs.Table.{lookUp, storeUnder}
-use Rattle.tables.specs.FreeList.{freedHead, freedLink, takenHead, takenLink}
-use Rattle.tables.specs.Entry.{emptyEntry, held, predictedEntry, completedEntry, waitingEntry, sleepEntry, wakeEntry}
+use Rattle.tables.specs.FreeList.{freedHead, freedLink, takenHead}
+use Rattle.tables.specs.Entry.{emptyEntry, predictedEntry}
 use Rattle.tables.specs.declared.Entry.{Entry}
-use Rattle.tables.proofs.TableLaws.{look-within, store-within, store-zero}
-use Rattle.window.specs.Call.{entryAt, place, changeFirst}
+use Rattle.tables.proofs.TableLaws.{store-within, store-zero}
+use Rattle.window.specs.Call.{entryAt, place}
 use Rattle.window.specs.Decode.{enter}
 use Rattle.window.specs.Drop.{dropYoungest, dropMany, dropTo}
-use Rattle.window.specs.Complete.{robbed, learned, refetched, redirected}
+use Rattle.window.specs.Complete.{refetched, redirected}
 use Rattle.window.specs.Commit.{haltedBy, moveDown, retired}
 use Rattle.window.specs.declared.Machine.{Machine}
 use Rattle.window.proofs.DropLaws.{drop-count}
-use Rattle.agreement.proofs.Core.{Core, coreOf, informEntry, putHead, putLink, reshown, dropAt, dropsTo, placed, release, learn, retire, append, steer, redirect}
-use Rattle.agreement.proofs.Stores.{store-set, look-get, freed-head, freed-link, wake-entry, sleep-entry, first-changed, map-alike}
+use Rattle.agreement.proofs.Core.{Core, coreOf, dropAt, dropsTo, placed, retire, append, steer, redirect}
+use Rattle.agreement.proofs.Stores.{store-set, look-get, freed-head, freed-link}
 use Rattle.agreement.proofs.Kept.{Kept, kept-drop}
-use Rattle.agreement.proofs.Tidy.{Plain, Tidy, zero-kept, cleared-kept, tidy-drop}
+use Rattle.agreement.proofs.Tidy.{Plain, Tidy, cleared-kept, tidy-drop}
 
 -- the entries that the count covers
 pub seen-length : (m : Machine) → Kept m → length (coreOf m .entries) ≡ m .count
