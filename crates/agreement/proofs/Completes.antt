@@ -64,10 +64,10 @@ module _ (p : List ℕ) (s : State) (c : Core) (invariant : Invariant p s c) (i 
       let executes : Executes p g t (executionOf e) = executes-at p g s (c .entries) i inside (invariant .executed) in
       let renamed : Renamed g (namesAt m (c .entries) i) (renamingOf e) = accounted-renamed g m c a i inside in
       let value : o .result ≡ getD (g .value) (e .name) 0 =
-          complete-value p g t e size sized-here executes now o is goes (agree-at p g m s (c .entries) i (a .writers .size) (invariant .agree) (a .renamed) (invariant .executed) .size)
-          (omega (arith, renamed .written, renamed .small)) (λ q. written (renamed .written ∙ q)) in
+      complete-value p g t e size sized-here executes now o is goes (agree-at p g m s (c .entries) i (a .writers .size) (invariant .agree) (a .renamed) (invariant .executed) .size)
+      (omega (arith, renamed .written, renamed .small)) (λ q. written (renamed .written ∙ q)) in
       let q : (n : ℕ) × (ns : List ℕ) × RegisterPool (c .setup .registers) (c .physical) (c .registerhead) (c .registerlink) (n ∷ ns) =
-          pool-some (c .setup .registers) (c .physical) (c .registerhead) (c .registerlink) (a .freeRegisters) (a .registerPool) head in
+      pool-some (c .setup .registers) (c .physical) (c .registerhead) (c .registerlink) (a .freeRegisters) (a .registerPool) head in
       accounted-tidy g m (learn i (o .result) c)
       (learn-accounted g m c a i inside (named p s c invariant i inside written) (o .result) (q .0) (q .1) (q .2) now (issued-read p g t e size sized-here executes now .clean) value)
 

@@ -113,5 +113,5 @@ statement window registers program memory accepted events =
     let begin : World = started window registers (length program) (length memory) memory in
     let commits : ℕ = acceptedCommits program events begin in
     let r : Reached program (origin memory) (0 + commits) (makeAll program events begin) =
-        all-reached program (origin memory) events 0 begin (started-reached window registers program memory accepted) in
+    all-reached program (origin memory) events 0 begin (started-reached window registers program memory accepted) in
     agrees program (origin memory) commits (makeAll program events begin) (subst (λ (x : ℕ). Reached program (origin memory) x (makeAll program events begin)) (zero-add commits) r)

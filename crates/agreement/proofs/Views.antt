@@ -97,9 +97,9 @@ module _ (m : Machine) (k : Kept m) (some : 0 < m .count) (t : Tidy (coreOf m)) 
       let p : Plain (m .physical) e = subst (Plain (m .physical)) q (t .entries n (omega arith)) in
       let freed : storeUnder (m .physical) (e .name) 0 ≡ set (m .physical) (e .name) 0 = store-set (m .physical) (e .name) 0 0 (λ x. t .physical) in
       let back : lookUp (storeUnder (m .physical) (e .name) 0) (e .previous) ≡ getD (set (m .physical) (e .name) 0) (e .previous) 0 =
-          ap (λ (l : List ℕ). lookUp l (e .previous)) freed ∙ look-get (set (m .physical) (e .name) 0) (e .previous) (cleared-kept (m .physical) (e .name) 0 (t .physical)) in
+      ap (λ (l : List ℕ). lookUp l (e .previous)) freed ∙ look-get (set (m .physical) (e .name) 0) (e .previous) (cleared-kept (m .physical) (e .name) 0 (t .physical)) in
       let backless : e .destination ≡ 0 → getD (m .mapregister) 0 0 ≡ getD (set (m .physical) (e .name) 0) (e .previous) 0 =
-          λ d. t .registers ∙ sym (ap (λ (x : ℕ). getD (set (m .physical) (e .name) 0) x 0) (p .baseless d) ∙ cleared-kept (m .physical) (e .name) 0 (t .physical)) in
+      λ d. t .registers ∙ sym (ap (λ (x : ℕ). getD (set (m .physical) (e .name) 0) x 0) (p .baseless d) ∙ cleared-kept (m .physical) (e .name) 0 (t .physical)) in
       rw q (λ i. record {
         setup = m .setup;
         entries = (take-set-le n (m .entries) n emptyEntry (omega arith) ∙ sym (take-take n (m .count) (m .entries) (omega arith))) i;
@@ -170,14 +170,14 @@ module _ (i next : ℕ) (m : Machine) (k : Kept m) (t : Tidy (coreOf m)) (h : i 
       let c = drops-count n m in
       view-refetched i next (dropTo (suc i) m) (omega arith)
       ∙ ap (λ (d : Core). steer next (d .next) (d .halt) (placed i (predictedEntry next (getD (d .entries) i emptyEntry)) d))
-          (view-drop-to (suc i) m k t h ∙ ap (λ (x : ℕ). dropsTo (suc i) (x - suc i) (coreOf m)) (sym (seen-length m k)))
+      (view-drop-to (suc i) m k t h ∙ ap (λ (x : ℕ). dropsTo (suc i) (x - suc i) (coreOf m)) (sym (seen-length m k)))
 
   pub view-redirected : coreOf (redirected i next m) ≡ redirect i next (coreOf m)
   unfolding redirected redirect
   view-redirected =
       redirect-at (eqb next (entryAt m i .predicted))
       ∙ ap (λ (e : Entry). choose (eqb next (e .predicted)) (coreOf m) (let d : Core = dropsTo (suc i) (length (coreOf m .entries) - suc i) (coreOf m) in
-          steer next (d .next) (d .halt) (placed i (predictedEntry next (getD (d .entries) i emptyEntry)) d))) (sym (seen-entry m i h))
+      steer next (d .next) (d .halt) (placed i (predictedEntry next (getD (d .entries) i emptyEntry)) d))) (sym (seen-entry m i h))
 
 -- commit
 is-moved : (count : ℕ) (entries : List Entry) → length (drop 1 (take count entries)) ≡ count - 1 → take (count - 1) (moveDown count entries) ≡ drop 1 (take count entries)
