@@ -20,7 +20,6 @@ use Rattle.isa.specs.Statement.{Between, Even, Fields, Ranges, InRange}
 use Rattle.isa.specs.declared.Instruction.{Instruction}
 use Rattle.isa.proofs.Accepted.{Within, Accepted}
 use Rattle.isa.proofs.FieldsBack.{natural}
-use Rattle.isa.proofs.Parts.{parts}
 use Rattle.isa.proofs.ReadLaws.{legal-word, operation-kept}
 use Rattle.isa.proofs.WordBack.{range13, range21}
 
@@ -82,41 +81,47 @@ accepted-of i r = record { first = r .first; last = r .last; fields = within-of 
 five : (w low : ℕ) → field w low 5 ≤ 31
 five w low = let p = below w low 5 in omega arith
 
-within-read : (F : Format) (operation w : ℕ) → w < 2 ^ 32 → Within (limitsOf F) (fieldsOf F operation w)
+within-read : (F : Format) (operation w : ℕ) → Within (limitsOf F) (fieldsOf F operation w)
 unfolding fieldsOf constantOf
-within-read R operation w h = record { rd = five w 7; rs1 = five w 15; rs2 = five w 20; from = refl; to = refl; step = refl }
-within-read I operation w h =
+within-read R operation w = record { rd = five w 7; rs1 = five w 15; rs2 = five w 20; from = refl; to = refl; step = refl }
+within-read I operation w =
     let n = field w 20 12 in
     record { rd = five w 7; rs1 = five w 15; rs2 = omega arith; from = extend-from 0x800 n 2_047 (below w 20 12) refl; to = extend-to 0x800 n 2_047 (λ q. omega arith); step = mod-one _ }
-within-read S operation w h =
+within-read S operation w =
     let n = field w 25 7 * 2 ^ 5 + field w 7 5 in
     let p = below w 25 7 in
     let q = below w 7 5 in
     record { rd = omega arith; rs1 = five w 15; rs2 = five w 20; from = extend-from 0x800 n 2_047 (omega arith) refl; to = extend-to 0x800 n 2_047 (λ q. omega arith); step = mod-one _ }
-within-read B operation w h =
+within-read B operation w =
     let n = field w 31 1 * 2 ^ 12 + field w 7 1 * 2 ^ 11 + field w 25 6 * 2 ^ 5 + field w 8 4 * 2 in
-    let p = parts w h in
+    let p31 = below w 31 1 in
+    let p7 = below w 7 1 in
+    let p25 = below w 25 6 in
+    let p8 = below w 8 4 in
     let m : n < 0x1000 + 0x1000 = omega arith in
     let e = extend-low 0x1000 range13 n m in
     record { rd = omega arith; rs1 = five w 15; rs2 = five w 20; from = extend-from 0x1000 n 4_095 m refl; to = extend-to 0x1000 n 4_094 (λ q. omega arith); step = omega arith }
-within-read U operation w h =
+within-read U operation w =
     let n = below w 12 20 in
     record { rd = five w 7; rs1 = omega arith; rs2 = omega arith; from = le-leb 0 (field w 12 20) (omega arith); to = le-leb (field w 12 20) 1_048_575 (omega arith); step = mod-one _ }
-within-read J operation w h =
+within-read J operation w =
     let n = field w 31 1 * 2 ^ 20 + field w 12 8 * 2 ^ 12 + field w 20 1 * 2 ^ 11 + field w 21 10 * 2 in
-    let p = parts w h in
+    let p31 = below w 31 1 in
+    let p12 = below w 12 8 in
+    let p20 = below w 20 1 in
+    let p21 = below w 21 10 in
     let m : n < 0x10_0000 + 0x10_0000 = omega arith in
     let e = extend-low 0x10_0000 range21 n m in
     record { rd = five w 7; rs1 = omega arith; rs2 = omega arith; from = extend-from 0x10_0000 n 1_048_575 m refl; to = extend-to 0x10_0000 n 1_048_574 (λ q. omega arith); step = omega arith }
-within-read Shift operation w h =
+within-read Shift operation w =
     let n = below w 20 5 in
     record { rd = five w 7; rs1 = five w 15; rs2 = omega arith; from = le-leb 0 (field w 20 5) (omega arith); to = le-leb (field w 20 5) 31 (omega arith); step = mod-one _ }
-within-read Whole operation w h = record { rd = omega arith; rs1 = omega arith; rs2 = omega arith; from = refl; to = refl; step = refl }
+within-read Whole operation w = record { rd = omega arith; rs1 = omega arith; rs2 = omega arith; from = refl; to = refl; step = refl }
 
-pub read-accepted : (w : ℕ) (i : Instruction) → w < 2 ^ 32 → readOf w ≡ legal i → Accepted i
+pub read-accepted : (w : ℕ) (i : Instruction) → readOf w ≡ legal i → Accepted i
 unfolding fieldsOf
-read-accepted w i h p =
+read-accepted w i p =
     let l = legal-word w i p in
     let F = formatOf (l .operation) in
     let o = operation-kept F (l .operation) w in
-    rw (l .is) (record { first = rw o (l .first); last = rw o (l .last); fields = rw o (within-read F (l .operation) w h) })
+    rw (l .is) (record { first = rw o (l .first); last = rw o (l .last); fields = rw o (within-read F (l .operation) w) })

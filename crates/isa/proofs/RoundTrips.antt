@@ -29,7 +29,7 @@ word-read i a =
     read-some (wordOf i) operation o (λ z. omega (arith, a .first)) ∙ ap legal (b .is)
 
 word-back : (w : ℕ) (i : Instruction) → w < 2 ^ 32 → readOf w ≡ legal i → encodedOf i ≡ written w
-word-back w i h p = sym (answer-written i (accepted-holds i (read-accepted w i h p))) ∙ ap written (read-word w i h p)
+word-back w i h p = sym (answer-written i (accepted-holds i (read-accepted w i p))) ∙ ap written (read-word w i h p)
 
 -- an answer without refusal comes from an accepted instruction
 zero-accepted : (i : Instruction) → encodedOf i .refusal ≡ 0 → Accepted i
@@ -58,7 +58,7 @@ pub statement : Statement
 statement =
     record {
       word-back = word-back;
-      read-taken = λ w i h p. in-range-of i (read-accepted w i h p);
+      read-taken = λ w i h p. in-range-of i (read-accepted w i p);
       fields-back = fields-back;
       taken = λ i r. sym (ap (λ (x : Encoded). x .refusal) (answer-written i (accepted-holds i (accepted-of i r))));
       only-taken = λ i e. in-range-of i (zero-accepted i e);

@@ -1,7 +1,7 @@
 -- What a fetch says of the program.
-use Prim.Native.Nat.{ℕ}
+use Prim.Native.Nat.{ℕ, zero, suc}
 use mathlib.Core.Path.{_≡_, refl, sym, ap, subst, _∙_}
-use mathlib.Core.Bool.{Bool, true, false}
+use mathlib.Core.Bool.{Bool, true, false, _||_}
 use mathlib.Core.List.{List}
 use native.Mathlib.Omega.{arith}
 use borrow.Author.Tests.{eqb-true, eq-eqb}
@@ -9,8 +9,10 @@ use lib.Dec.{eqb}
 use lib.ListN.{length}
 use Rattle.word.specs.Bytes.{number, byteOf}
 use Rattle.laws.proofs.Bools.{impossible}
-use Rattle.isa.specs.Reads.{choose, Numbers, legal, illegal, readOf}
+use Rattle.isa.specs.Reads.{choose, none, Numbers, legal, illegal, operationOf, readAs, readOf}
 use Rattle.isa.specs.declared.Instruction.{Instruction}
+use Rattle.isa.proofs.Accepted.{Accepted}
+use Rattle.isa.proofs.Ranges.{read-accepted}
 use Rattle.isa.proofs.ReadLaws.{Small, legal-small}
 use Rattle.reference.specs.Memory.{accessible}
 use Rattle.reference.specs.Fetch.{FetchNumbers, noInstruction, fetchNumbers, ofReading, fetchAt}
@@ -66,3 +68,30 @@ unfound-cause program address cause e z = at (accessible (length program) addres
     at : (b : Bool) → noInstruction cause ≡ choose b (ofReading n) (noInstruction 4) → ⊥
     at true h = impossible (ap (λ (f : FetchNumbers). f .found) h ∙ eq-eqb (n .cause) 0 (sym (ap (λ (f : FetchNumbers). f .cause) h) ∙ z))
     at false h = let four : cause ≡ 4 = ap (λ (f : FetchNumbers). f .cause) h in absurd (omega arith)
+
+-- the encoder takes what is fetched
+accepted-at : (b : Bool) (w : ℕ) → choose b (ofReading (readOf w)) (noInstruction 4) .found ≡ true → Accepted (choose b (ofReading (readOf w)) (noInstruction 4) .fields)
+accepted-at true w e = read-accepted w (readOf w .fields) (legal-of (readOf w) e)
+accepted-at false w e = impossible e
+
+pub fetched-accepted : (program : List ℕ) (address : ℕ) → fetchAt program address .found ≡ true → Accepted (fetchAt program address .fields)
+unfolding fetchAt
+fetched-accepted program address e = accepted-at (accessible (length program) address 4) (number (byteOf program) address 4) e
+
+-- where there is none: cause 1 or 4, and no fields
+pub record Missing (f : FetchNumbers) : Type 0 where
+  pub fields : f .fields ≡ none
+  pub cause : eqb (f .cause) 1 || eqb (f .cause) 4 ≡ true
+
+missing-read : (w operation : ℕ) → eqb (readAs operation w .cause) 0 ≡ false → Missing (ofReading (readAs operation w))
+missing-read w zero e = record { fields = refl; cause = refl }
+missing-read w (suc n) e = impossible (sym e)
+
+missing-at : (b : Bool) (w : ℕ) → choose b (ofReading (readOf w)) (noInstruction 4) .found ≡ false → Missing (choose b (ofReading (readOf w)) (noInstruction 4))
+unfolding readOf
+missing-at true w e = missing-read w (operationOf w) e
+missing-at false w e = record { fields = refl; cause = refl }
+
+pub fetched-missing : (program : List ℕ) (address : ℕ) → fetchAt program address .found ≡ false → Missing (fetchAt program address)
+unfolding fetchAt
+fetched-missing program address e = missing-at (accessible (length program) address 4) (number (byteOf program) address 4) e

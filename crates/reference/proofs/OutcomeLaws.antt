@@ -1,16 +1,17 @@
 -- What every outcome of an instruction keeps to.
-use Prim.Native.Nat.{ℕ, _*_, _/_, _%_, _≤_}
+use Prim.Native.Nat.{ℕ, _+_, _*_, _/_, _%_, _≤_}
 use mathlib.Core.Path.{_≡_, refl, subst}
 use mathlib.Core.Bool.{Bool, true, false}
 use native.Mathlib.Omega.{arith}
 use lib.Dec.{T, leb, eqb, leb→le}
+use Rattle.laws.proofs.Bools.{and-right}
 use Rattle.laws.proofs.Table.{anywhere}
 use Rattle.isa.specs.Reads.{choose}
 use Rattle.isa.specs.declared.Instruction.{Instruction}
 use Rattle.word.specs.Arithmetic.{sum}
 use Rattle.word.specs.Signed.{wordOf}
 use Rattle.reference.specs.Actions.{Computation, Upper, UpperAddress, Jump, JumpRegister, Branch, Immediate, Register, Action, Computes, LoadsSigned, LoadsUnsigned, Stores, Stops, actions, actionOf}
-use Rattle.reference.specs.Memory.{accessible}
+use Rattle.reference.specs.Memory.{accessible, endsWithinBy, storeEndsWithin}
 use Rattle.reference.specs.Execute.{goes, stops, jumps, onward, holds, performed, executedBy, executed}
 use Rattle.reference.specs.declared.Outcome.{Outcome}
 
@@ -69,3 +70,23 @@ stop-cause operation cause e = leb→le cause 7 (subst (λ (a : Action). T (stop
 pub executed-proper : (length : ℕ) (i : Instruction) (address first second : ℕ) → Proper address (executed length i address first second)
 executed-proper length i address first second =
     proper-by (actionOf (i .operation)) length address (wordOf (i .constant)) first second (stop-cause (i .operation))
+
+-- a store that ended without a cause stays within the data
+accessible-ends : (length address size : ℕ) → accessible length address size ≡ true → leb (address + size) length ≡ true
+unfolding accessible
+accessible-ends length address size e = and-right (eqb (address % size) 0) (leb (address + size) length) e
+
+store-at : (b : Bool) (address : ℕ) → choose b (goes 0 (onward address)) (stops address 7) .stop .cause ≡ 0 → b ≡ true
+store-at true address e = refl
+store-at false address e = absurd (omega arith)
+
+ends-by : (a : Action) (length address c first second : ℕ) → executedBy a length address c first second .stop .cause ≡ 0 → endsWithinBy a length (sum first c) ≡ true
+unfolding executedBy endsWithinBy
+ends-by (Computes computation) length address c first second e = refl
+ends-by (LoadsSigned size) length address c first second e = refl
+ends-by (LoadsUnsigned size) length address c first second e = refl
+ends-by (Stores size) length address c first second e = accessible-ends length (sum first c) size (store-at (accessible length (sum first c) size) address e)
+ends-by (Stops cause) length address c first second e = refl
+
+pub executed-ends : (length : ℕ) (i : Instruction) (address first second : ℕ) → executed length i address first second .stop .cause ≡ 0 → storeEndsWithin length i first ≡ true
+executed-ends length i address first second e = ends-by (actionOf (i .operation)) length address (wordOf (i .constant)) first second e

@@ -11,3 +11,4 @@ pub mod DecodeLaws
 pub mod OperationLaws
 pub mod IssueLaws
 pub mod CompleteLaws
+pub mod CommitLaws

@@ -69,8 +69,11 @@ retired m =
     }
 
 -- "With a cause: the rest is dropped, then this entry; the machine halts with the cause, fetch and next address staying."
+abbrev pub stoppedWith : Stop → Machine → Machine
+stoppedWith why m = haltedBy why (dropTo 0 m)
+
 abbrev pub committed : Machine → Machine
-committed m = choose (eqb (entryAt m 0 .stop .cause) 0) (retired m) (haltedBy (entryAt m 0 .stop) (dropTo 0 m))
+committed m = choose (eqb (entryAt m 0 .stop .cause) 0) (retired m) (stoppedWith (entryAt m 0 .stop) m)
 
 -- "Otherwise a store writes data"
 abbrev pub writtenBy : Entry → List ℕ → List ℕ

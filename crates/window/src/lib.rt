@@ -1,4 +1,5 @@
 // The Window level: a renaming core driven call by call.
+pub mod committing;
 pub mod completing;
 pub mod decoding;
 pub mod dropping;

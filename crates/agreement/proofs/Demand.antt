@@ -1,0 +1,117 @@
+-- The statement of demand 3.
+use Prim.Native.Nat.{ℕ, _+_, _≤_, _<_}
+use mathlib.Core.Path.{_≡_, refl, sym, ap, subst, _∙_}
+use mathlib.Core.Logic.{_≢_}
+use mathlib.Core.Bool.{Bool, true, _&&_}
+use mathlib.Core.List.{List}
+use native.Mathlib.Nat.{add-zero, zero-add}
+use native.Mathlib.Omega.{arith}
+use borrow.Author.Tests.{eq-eqb, ne-eqb}
+use lib.Dec.{leb}
+use lib.ListN.{length, getD}
+use Rattle.isa.specs.Reads.{choose}
+use Rattle.laws.proofs.Bools.{and-left}
+use Rattle.reference.specs.Run.{runOf}
+use Rattle.reference.specs.Step.{State}
+use Rattle.reference.specs.declared.Stop.{Stop}
+use Rattle.tables.specs.Table.{lookUp}
+use Rattle.tables.proofs.TableLaws.{look-within}
+use Rattle.window.specs.SetUp.{freshMachine, setUpRefusal}
+use Rattle.window.specs.Range.{setupInRange, tablesInRange, entriesInRange, machineInRange}
+use Rattle.window.specs.Drop.{dropTo}
+use Rattle.window.specs.Report.{valueIn}
+use Rattle.window.specs.declared.Machine.{Machine}
+use Rattle.window.proofs.DropLaws.{drop-done}
+use Rattle.window.proofs.FreshInRange.{fresh-in-range}
+use Rattle.window.proofs.SetUpLaws.{accepted-sizes}
+use Rattle.agreement.specs.Lists.{World, makeAll, acceptedCommits, started, origin}
+use Rattle.agreement.specs.Statement.{Agrees, Statement}
+use Rattle.agreement.proofs.Core.{coreOf}
+use Rattle.agreement.proofs.Invariant.{Emptied}
+use Rattle.agreement.proofs.Commit.{emptied-value, emptied-register}
+use Rattle.agreement.proofs.Start.{start}
+use Rattle.agreement.proofs.Steps.{read-some}
+use Rattle.agreement.proofs.Kept.{kept-fresh}
+use Rattle.agreement.proofs.Views.{seen-length}
+use Rattle.agreement.proofs.InRange.{in-range}
+use Rattle.agreement.proofs.Reports.{report-is}
+use Rattle.agreement.proofs.Runs.{run-none}
+use Rattle.agreement.proofs.Commits.{dropped-emptied}
+use Rattle.agreement.proofs.Fits.{Fit}
+use Rattle.agreement.proofs.Safe.{Safe, alive, dead, Reached, all-reached}
+use Rattle.agreement.proofs.Ranged.{alive-range, emptied-range, step-cause}
+use Rattle.agreement.proofs.Onward.{commits-within}
+
+-- the general map of a machine without entries shows the committed values
+emptied-shows : (s : State) (m : Machine) → Emptied s (coreOf m) → (r : ℕ) → 1 ≤ r → r < 32 → valueIn m r ≡ getD (s .registers) r 0
+emptied-shows s m a r l h =
+    let nz : r ≢ 0 = λ z. omega arith in
+    let register : lookUp (m .mapregister) r ≡ getD (m .mapregister) r 0 = sym (look-within (m .mapregister) r nz) in
+    ap (lookUp (m .values)) register ∙ sym (look-within (m .values) (getD (m .mapregister) r 0) (emptied-register s (coreOf m) a r l h)) ∙ emptied-value s (coreOf m) a r l h ∙ read-some (s .registers) r nz
+
+module _ (program : List ℕ) (begin : State) (n : ℕ) (w : World) (r : Reached program begin n w) where
+  abbrev m : Machine
+  m = w .machine
+
+  fit : Fit program w
+  fit = r .fit
+
+  agrees-at : Safe program begin n w → Agrees program w n (runOf n program begin)
+  agrees-at (alive s run halt memory zeros inv) =
+      let cause : m .halt .cause ≡ 0 = ap (λ (x : Stop). x .cause) halt in
+      subst (Agrees program w n) (sym run) (record {
+        registers = report-is m (s .registers) (in-range m (fit .kept) (alive-range program s (coreOf m) inv (ap length (sym memory) ∙ fit .bytes) (fit .setup) (omega arith))) (inv .agree .size) zeros
+            (emptied-shows s (dropTo 0 m) (dropped-emptied program s m (fit .kept) inv));
+        memory = memory;
+        next = inv .next;
+        halt = halt;
+        steps = sym (ap (λ (b : Bool). n + choose b 0 1) (eq-eqb (m .halt .cause) 0 cause) ∙ add-zero n);
+        onward = commits-within program begin n w r;
+      })
+  agrees-at (dead s k l run halt memory zeros why empty) =
+      let most : m .halt .cause ≤ 7 = subst (λ (x : Stop). x .cause ≤ 7) why (step-cause program s) in
+      let none : m .count ≡ 0 = sym (seen-length m (fit .kept)) ∙ ap length (empty .empty) in
+      subst (Agrees program w n) (sym run) (record {
+        registers = report-is m (s .registers) (in-range m (fit .kept) (emptied-range s (coreOf m) empty (fit .setup) most)) (empty .agree .size) zeros
+            (emptied-shows s (dropTo 0 m) (subst (λ (x : Machine). Emptied s (coreOf x)) (sym (drop-done 0 m (omega arith))) empty));
+        memory = memory;
+        next = empty .next;
+        halt = refl;
+        steps = l ∙ sym (ap (λ (b : Bool). k + choose b 0 1) (ne-eqb (m .halt .cause) 0 halt));
+        onward = commits-within program begin n w r;
+      })
+
+  agrees : Agrees program w n (runOf n program begin)
+  agrees = agrees-at (r .safe)
+
+-- the machine of an accepted set-up
+setup-of : (m : Machine) → machineInRange m ≡ true → setupInRange (m .setup) ≡ true
+unfolding machineInRange
+setup-of m t =
+    let a = setupInRange (m .setup) in
+    let b = leb (m .count) (m .setup .window) in
+    let c = tablesInRange m in
+    let d = entriesInRange (m .setup) (m .count) (m .entries) in
+    and-left a b (and-left (a && b) c (and-left (a && b && c) d t))
+
+started-reached : (window registers : ℕ) (program memory : List ℕ) → setUpRefusal window registers (length program) (length memory) ≡ 0
+    → Reached program (origin memory) 0 (started window registers (length program) (length memory) memory)
+started-reached window registers program memory accepted =
+    let sizes = accepted-sizes window registers (length program) (length memory) accepted in
+    record {
+      fit = record {
+        kept = kept-fresh window registers (length program) (length memory) (sizes .window-to);
+        setup = setup-of (freshMachine window registers (length program) (length memory)) (fresh-in-range window registers (length program) (length memory) accepted);
+        sized = refl;
+        bytes = refl;
+      };
+      safe = alive (origin memory) (run-none program (origin memory)) refl refl refl (start window registers (length program) (length memory) accepted program memory);
+    }
+
+pub statement : Statement
+statement window registers program memory accepted events =
+    let begin : World = started window registers (length program) (length memory) memory in
+    let commits : ℕ = acceptedCommits program events begin in
+    let r : Reached program (origin memory) (0 + commits) (makeAll program events begin) =
+    all-reached program (origin memory) events 0 begin (started-reached window registers program memory accepted) in
+    agrees program (origin memory) commits (makeAll program events begin) (subst (λ (x : ℕ). Reached program (origin memory) x (makeAll program events begin)) (zero-add commits) r)
