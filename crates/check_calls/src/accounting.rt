@@ -45,12 +45,10 @@ fn all_seen(table: &[u8], counts: &mut [u8]) {
 fn entries_seen(m: Machine, registers: &mut [u8], names: &mut [u8]) {
     let count = m.count as usize;
     let mut k: usize = 0;
-    while k < 64 {
+    while k < 64 && k < count {
         let e = m.entries[k];
-        if k < count {
-            seen(registers, entries::held(&m.physical, e));
-            seen(names, e.name);
-        }
+        seen(registers, entries::held(&m.physical, e));
+        seen(names, e.name);
         k += 1;
     }
 }

@@ -32,19 +32,16 @@ pub fn made(m: Machine, program: &[u8], data: &mut [u8], c: Call) -> Answer {
     }
 }
 
-// the same call with another program's or other data's length
-pub fn elsewhere(
-    m: Machine,
-    program: &[u8],
-    data: &mut [u8],
-    c: Call,
-    other_program: bool,
-) -> Answer {
-    let mut other = [0u8; 3];
-    if other_program {
-        return made(m, &other, data, c);
+// a call; with 0 and 1 another program's or other data's length is lent
+pub fn lent(m: Machine, program: &[u8], data: &mut [u8], c: Call, other: u32) -> Answer {
+    let mut bytes = [0u8; 3];
+    if other == 0 {
+        return made(m, &bytes, data, c);
     }
-    made(m, program, &mut other, c)
+    if other == 1 {
+        return made(m, program, &mut bytes, c);
+    }
+    made(m, program, data, c)
 }
 
 // waiting, issued, completed by number

@@ -11,8 +11,11 @@ pub struct Ordered {
     pub cause: u8,
 }
 
-// one step further
-pub fn stepped(o: Ordered, program: &[u8], data: &mut [u8]) -> Ordered {
+// one step further, or none
+pub fn stepped(o: Ordered, program: &[u8], data: &mut [u8], further: bool) -> Ordered {
+    if !further {
+        return o;
+    }
     let before = o.registers;
     let s = reference::step(program, data, before, o.address);
     let after = s.registers;

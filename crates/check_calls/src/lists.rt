@@ -16,6 +16,25 @@ struct Run {
     ordered: Ordered,
 }
 
+// what is to hold after a call: a refused one changed nothing, and other lengths are refused by 6
+fn judged(
+    before: Machine,
+    after: Machine,
+    o: Ordered,
+    same_data: bool,
+    c: Call,
+    number: u8,
+    other: u32,
+    counts: &mut [u64],
+) {
+    counting::told(counts, before, after, c, number);
+    let kept = (number == 0) | comparing::same(before, after);
+    let lengths = (other >= 2) | (number == 6);
+    let agrees = comparing::agrees(after, o) & same_data;
+    counting::expect(counts, counting::DIFFERENCES, kept & lengths & agrees);
+    counting::expect(counts, counting::VIOLATIONS, accounting::holds(after));
+}
+
 // a call with the lengths of set-up, or with others
 fn called(
     r: Run,
@@ -28,23 +47,21 @@ fn called(
 ) -> Run {
     let before = r.machine;
     let o = r.ordered;
-    let a = if other < 2 {
-        calls::elsewhere(before, program, data, c, other == 0)
-    } else {
-        calls::made(before, program, data, c)
-    };
+    let a = calls::lent(before, program, data, c, other);
     let after = a.machine;
-    let ordered = if (a.number == 0) & (c.kind == calls::COMMIT) {
-        comparing::stepped(o, program, want)
-    } else {
-        o
-    };
-    counting::told(counts, before, after, c, a.number);
-    let kept = (a.number == 0) | comparing::same(before, after);
-    let lengths = (other >= 2) | (a.number == 6);
-    let agrees = comparing::agrees(after, ordered) & check::same(data, want);
-    counting::expect(counts, counting::DIFFERENCES, kept & lengths & agrees);
-    counting::expect(counts, counting::VIOLATIONS, accounting::holds(after));
+    let commits = (a.number == 0) & (c.kind == calls::COMMIT);
+    let ordered = comparing::stepped(o, program, want, commits);
+    let same_data = check::same(data, want);
+    judged(
+        before,
+        after,
+        ordered,
+        same_data,
+        c,
+        a.number,
+        other,
+        counts,
+    );
     Run {
         machine: after,
         ordered,
@@ -146,43 +163,49 @@ fn registers(k: u32) -> u32 {
     }
 }
 
-// a whole list: turns until a halt and a few after it, or without a halt the further calls
-fn play(program: &[u8], data: &mut [u8], want: &mut [u8], k: u32, seed: u32, counts: &mut [u64]) {
-    let a = Machine::set_up(
-        window(k % 6),
-        registers(k / 6 % 8),
-        program.len(),
-        data.len(),
-    );
-    counting::expect(counts, counting::DIFFERENCES, a.number == 0);
+// after the turns: a few more through a halt, or without a halt the further calls
+fn ended(
+    r: Run,
+    program: &[u8],
+    data: &mut [u8],
+    want: &mut [u8],
+    seed: u32,
+    counts: &mut [u64],
+) -> Run {
+    let m = r.machine;
+    let halt = m.halt;
+    if halt.cause != 0 {
+        return turns(r, program, data, want, seed, 5, true, counts);
+    }
+    further(r, program, data, want, counts)
+}
+
+fn fresh(w: u32, n: u32, program: usize, bytes: usize) -> Run {
+    let a = Machine::set_up(w, n, program, bytes);
     let machine = a.machine;
     let ordered = Ordered {
         registers: [0; 32],
         address: 0,
         cause: 0,
     };
-    let r = turns(
-        Run { machine, ordered },
-        program,
-        data,
-        want,
-        seed,
-        200,
-        false,
-        counts,
+    Run { machine, ordered }
+}
+
+// a whole list
+fn play(program: &[u8], data: &mut [u8], want: &mut [u8], k: u32, seed: u32, counts: &mut [u64]) {
+    let r = fresh(
+        window(k % 6),
+        registers(k / 6 % 8),
+        program.len(),
+        data.len(),
     );
-    let m = r.machine;
-    let halt = m.halt;
+    let r = turns(r, program, data, want, seed, 200, false, counts);
+    ended(r, program, data, want, chance::next(seed), counts);
     counting::more(counts, counting::LISTS, 1);
-    if halt.cause != 0 {
-        turns(r, program, data, want, chance::next(seed), 5, true, counts);
-        return;
-    }
-    further(r, program, data, want, counts);
 }
 
 fn list(k: u32, counts: &mut [u64]) {
-    let seed = draw(0x1234_5678, k) + 1;
+    let seed = std::num::wrapping_add_u32(draw(0x1234_5678, k), 1);
     let mut program = [0u8; 256];
     let mut data = [0u8; 64];
     let mut want = [0u8; 64];
