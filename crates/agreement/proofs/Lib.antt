@@ -60,6 +60,7 @@ pub mod Steady
 pub mod Fits
 pub mod Safe
 pub mod Ranged
+pub mod Reaching
 pub mod Oldest
 pub mod Onward
 pub mod Demand
