@@ -64,3 +64,7 @@ pub mod Reaching
 pub mod Oldest
 pub mod Onward
 pub mod Demand
+-- drain
+pub mod Shrinks
+pub mod DrainSteps
+pub mod Draining
