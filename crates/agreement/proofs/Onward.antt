@@ -49,7 +49,7 @@ module _ (program : List ℕ) (w : World) where
   within-made n call m e q f =
       within-at n call (ap (λ (x : Made). x .number) e) (λ z. subst (λ (x : Made). CommitsWithin n program (x .world)) (sym e) f) q
 
-needed-some : (m : Machine) (s : Stage) → At m 0 s → needed m ≡ neededBy s
+pub needed-some : (m : Machine) (s : Stage) → At m 0 s → needed m ≡ neededBy s
 needed-some m s a =
     let h = a .there in
     ap (λ (b : Bool). choose b (decode (onward (m .fetch))) (neededBy (entryAt m 0 .state))) (ne-eqb (m .count) 0 (λ z. omega arith)) ∙ ap neededBy (a .state)
