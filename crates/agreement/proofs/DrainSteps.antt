@@ -1,13 +1,12 @@
 -- Each accepted call of drain leaves less to do: three calls for each entry, without those that the oldest has had.
-use Prim.Native.Nat.{ℕ, zero, suc, _+_, _-_, _*_, _≤_, _<_}
-use mathlib.Core.Path.{_≡_, refl, sym, ap, subst, _∙_}
-use mathlib.Core.Bool.{Bool, true, false, not, _||_}
-use mathlib.Core.List.{List, [], _∷_}
+use Prim.Native.Nat.{ℕ, _-_, _*_, _≤_, _<_}
+use mathlib.Core.Path.{_≡_, refl, sym, ap}
+use mathlib.Core.Bool.{Bool, true, false, _||_}
+use mathlib.Core.List.{List, _∷_}
 use native.Mathlib.Omega.{arith}
-use borrow.Author.Tests.{eqb-true, eqb-false, eq-eqb}
+use borrow.Author.Tests.{eqb-false, eq-eqb}
 use lib.Dec.{eqb}
 use lib.ListN.{length, take, drop, length-append}
-use Rattle.isa.specs.Reads.{choose}
 use Rattle.laws.proofs.Bools.{impossible}
 use Rattle.reference.specs.declared.Stop.{Stop}
 use Rattle.tables.specs.Entry.{emptyEntry, stateNumber}
@@ -18,7 +17,7 @@ use Rattle.window.specs.Drop.{dropTo}
 use Rattle.window.specs.Issue.{issueRefusal, issued, issueOf}
 use Rattle.window.specs.Complete.{completeRefusal, completed, completeOf}
 use Rattle.window.specs.Commit.{commitRefusal, haltedBy, moveDown, retired, committed, writtenBy, Commit, commitBy, commitOf}
-use Rattle.window.specs.Drain.{neededBy, neededOf, idle}
+use Rattle.window.specs.Drain.{neededBy, idle}
 use Rattle.window.specs.declared.Machine.{Machine}
 use Rattle.window.specs.declared.Answer.{Answer}
 use Rattle.agreement.proofs.Refusals.{is-zero}

@@ -68,3 +68,4 @@ pub mod Demand
 pub mod Shrinks
 pub mod DrainSteps
 pub mod Draining
+pub mod Drained
