@@ -8,12 +8,11 @@ use lib.ListN.{length}
 use Rattle.isa.specs.Reads.{choose}
 use Rattle.reference.specs.Step.{State}
 use Rattle.tables.specs.declared.State.{State as Stage}
-use Rattle.tables.specs.declared.State.the-variants.{Waits, Issued, Completed}
 use Rattle.window.specs.Call.{entryAt, lentRefusal}
 use Rattle.window.specs.Commit.{Commit}
-use Rattle.window.specs.Drain.{neededBy, neededOf, Drain, idle, drainEnds, drainFrom, drainOf}
+use Rattle.window.specs.Drain.{neededOf, Drain, idle, drainEnds, drainFrom, drainOf}
 use Rattle.window.specs.declared.Machine.{Machine}
-use Rattle.agreement.specs.Lists.{Call, Event, own, World, Made, madeBy, callOf, make, makeAll, acceptedCommit, acceptedCommits, started, origin, neededBy as neededCall, needed, CommitsWithin}
+use Rattle.agreement.specs.Lists.{Call, Event, own, World, Made, callOf, make, makeAll, acceptedCommit, acceptedCommits, started, origin, neededBy as neededCall, needed, CommitsWithin}
 use Rattle.agreement.specs.Drained.{Drained}
 use Rattle.agreement.proofs.Tests.{by-choice}
 use Rattle.agreement.proofs.Safe.{Reached, make-reached}
@@ -21,13 +20,7 @@ use Rattle.agreement.proofs.Reaching.{list-reached, reached-lent}
 use Rattle.agreement.proofs.Onward.{needed-some, commits-within}
 use Rattle.agreement.proofs.DrainSteps.{busy}
 use Rattle.agreement.proofs.Draining.{of-calls, of-ends}
-
--- drain's call is the one that demand 3 makes next
-needed-made : (s : Stage) (program memory : List ℕ) (m : Machine)
-    → let c : Commit = neededBy s program memory m in madeBy (c .answer .machine) (c .memory) (c .answer .number) ≡ callOf program memory (neededCall s) m
-needed-made Waits program memory m = refl
-needed-made Issued program memory m = refl
-needed-made Completed program memory m = refl
+use Rattle.agreement.proofs.Leading.{needed-made, of-leads, of-refuses, of-rests}
 
 within-first : (n : ℕ) (program : List ℕ) (w : World) → CommitsWithin (suc n) program w → callOf program (w .memory) (needed (w .machine)) (w .machine) .number ≡ 0
 unfolding CommitsWithin make
@@ -81,6 +74,9 @@ of-unrefused program begin k w r =
 pub drained : Drained
 drained =
     record {
+      made = of-leads;
+      refuses = of-refuses;
+      rests = of-rests;
       calls = of-calls;
       ends = of-ends;
       unrefused = λ window registers program memory accepted events.

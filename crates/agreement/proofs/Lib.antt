@@ -68,4 +68,5 @@ pub mod Demand
 pub mod Shrinks
 pub mod DrainSteps
 pub mod Draining
+pub mod Leading
 pub mod Drained
