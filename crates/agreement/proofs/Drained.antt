@@ -20,7 +20,7 @@ use Rattle.agreement.proofs.Reaching.{list-reached, reached-lent}
 use Rattle.agreement.proofs.Onward.{needed-some, commits-within}
 use Rattle.agreement.proofs.DrainSteps.{busy}
 use Rattle.agreement.proofs.Draining.{of-calls, of-ends}
-use Rattle.agreement.proofs.Leading.{needed-made, of-leads, of-refuses, of-rests}
+use Rattle.agreement.proofs.Leading.{needed-made, of-leads, of-number, of-refuses, of-rests}
 
 within-first : (n : ℕ) (program : List ℕ) (w : World) → CommitsWithin (suc n) program w → callOf program (w .memory) (needed (w .machine)) (w .machine) .number ≡ 0
 unfolding CommitsWithin make
@@ -75,6 +75,7 @@ pub drained : Drained
 drained =
     record {
       made = of-leads;
+      number = of-number;
       refuses = of-refuses;
       rests = of-rests;
       calls = of-calls;

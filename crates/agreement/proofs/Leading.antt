@@ -2,7 +2,7 @@
 use Prim.Native.Nat.{ℕ, zero, suc, _+_, _*_}
 use mathlib.Core.Path.{_≡_, refl, sym, ap, subst, _∙_}
 use mathlib.Core.Logic.{_≢_}
-use mathlib.Core.Bool.{Bool, true, false}
+use mathlib.Core.Bool.{Bool, true}
 use mathlib.Core.List.{List}
 use native.Mathlib.Nat.{add-zero}
 use native.Mathlib.Omega.{arith}
@@ -18,6 +18,7 @@ use Rattle.window.specs.Commit.{commitRefusal, committed, writtenBy, Commit, co
 use Rattle.window.specs.Drain.{neededBy, neededOf, Drain, idle, drainEnds, drainFrom, drainOf}
 use Rattle.window.specs.declared.Machine.{Machine}
 use Rattle.window.specs.declared.Answer.{Answer}
+use Rattle.window.proofs.RefusalLaws.{lent-first}
 use Rattle.agreement.specs.Lists.{own, World, Made, madeBy, callOf, make, neededBy as neededCall}
 use Rattle.agreement.specs.Drained.{Leads}
 use Rattle.agreement.proofs.Tests.{by-choice}
@@ -105,6 +106,51 @@ of-leads program w =
     let n = l .count in
     let q : l .more ≡ d .calls = omega arith in
     subst (λ (k : ℕ). Leads k program w (left d)) q (l .leads)
+
+-- a call that 5 or 6 refuses answers with that number
+answer-number : (m next : Machine) (refusal : ℕ) → answered m refusal next .number ≡ refusal
+answer-number m next refusal =
+    by-choice (λ (a : Answer). a .number ≡ refusal) (eqb refusal 0) (record { machine = next; number = 0 }) (record { machine = m; number = refusal }) (λ e. sym (eqb-true refusal 0 e)) (λ e. refl)
+
+commit-number : (memory : List ℕ) (m : Machine) (refusal : ℕ) → commitBy refusal memory m .answer .number ≡ refusal
+commit-number memory m refusal =
+    by-choice (λ (c : Commit). c .answer .number ≡ refusal) (eqb refusal 0) (record { answer = record { machine = committed m; number = 0 }; memory = writtenBy (entryAt m 0) memory })
+    (record { answer = record { machine = m; number = refusal }; memory = memory }) (λ e. sym (eqb-true refusal 0 e)) (λ e. refl)
+
+lent-number : (program memory : List ℕ) (m : Machine) (s : Stage) → lentRefusal m program memory ≢ 0 → neededBy s program memory m .answer .number ≡ lentRefusal m program memory
+unfolding issueOf completeOf commitOf
+lent-number program memory m Waits h = answer-number m (issued memory 0 m) _ ∙ sym (lent-first (lentRefusal m program memory) (issueRefusal 0 m) h)
+lent-number program memory m Issued h = answer-number m (completed 0 m) _ ∙ sym (lent-first (lentRefusal m program memory) (completeRefusal 0 m) h)
+lent-number program memory m Completed h = commit-number memory m _ ∙ sym (lent-first (lentRefusal m program memory) (commitRefusal m) h)
+
+-- the number with which it ends is that of its next call
+abbrev Says : List ℕ → Drain → Type 0
+Says program d = d .number ≢ 0 → neededOf program (d .memory) (d .machine) .answer .number ≡ d .number
+
+from-number : (n : ℕ) (program memory : List ℕ) (m : Machine) (calls : ℕ) → Says program (drainFrom n program memory m calls)
+unfolding drainFrom
+from-number zero program memory m calls = λ z. absurd (z refl)
+from-number (suc n) program memory m calls =
+    let made : Commit = neededOf program memory m in
+    let more : Drain = drainFrom n program (made .memory) (made .answer .machine) (suc calls) in
+    let over : Drain = drainEnds (made .memory) (made .answer .machine) calls (made .answer .number) in
+    by-choice (Says program) (idle m) (drainEnds memory m calls 0) (choose (eqb (made .answer .number) 0) more over) (λ e z. absurd (z refl)) (λ e.
+    by-choice (Says program) (eqb (made .answer .number) 0) more over (λ q. from-number n program (made .memory) (made .answer .machine) (suc calls))
+    (λ q z. ap (λ (v : World). neededOf program (v .memory) (v .machine) .answer .number) (sym (needed-same memory m program (entryAt m 0 .state) z))))
+
+of-says : (program memory : List ℕ) (m : Machine) → Says program (drainOf program memory m)
+unfolding drainOf
+of-says program memory m =
+    let lent : ℕ = lentRefusal m program memory in
+    by-choice (Says program) (eqb lent 0) (drainFrom (3 * m .count) program memory m 0) (drainEnds memory m 0 lent)
+    (λ e. from-number (3 * m .count) program memory m 0) (λ e z. lent-number program memory m (entryAt m 0 .state) z)
+
+pub of-number : (program : List ℕ) (w : World)
+    → let d : Drain = drainOf program (w .memory) (w .machine) in d .number ≢ 0 → make program (own (neededCall (entryAt (d .machine) 0 .state))) (left d) .number ≡ d .number
+unfolding make
+of-number program w z =
+    let d : Drain = drainOf program (w .memory) (w .machine) in
+    ap (λ (x : Made). x .number) (sym (needed-made (entryAt (d .machine) 0 .state) program (d .memory) (d .machine))) ∙ of-says program (w .memory) (w .machine) z
 
 -- what it does without a call
 module _ (program memory : List ℕ) (m : Machine) where

@@ -22,6 +22,10 @@ pub record Drained : Type 0 where
   -- "makes the calls that commit position 0 …, and counts accepted calls"; "At a refused call it ends …, keeping what earlier calls did"
   pub made : (program : List ℕ) (w : World)
       → let d : Drain = drainOf program (w .memory) (w .machine) in Leads (d .calls) program w (record { machine = d .machine; memory = d .memory })
+  -- "At a refused call it ends with that number": the one that the next call meets on what it hands back
+  pub number : (program : List ℕ) (w : World)
+      → let d : Drain = drainOf program (w .memory) (w .machine) in
+      d .number ≢ 0 → make program (own (neededBy (entryAt (d .machine) 0 .state))) (record { machine = d .machine; memory = d .memory }) .number ≡ d .number
   -- "It refuses by 5 and 6 at its start, with count 0"
   pub refuses : (program memory : List ℕ) (m : Machine) → lentRefusal m program memory ≢ 0 → drainOf program memory m ≡ drainEnds memory m 0 (lentRefusal m program memory)
   -- "on a halted or empty machine it makes no call"
