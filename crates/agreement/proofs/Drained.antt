@@ -46,8 +46,8 @@ module _ (program : List ℕ) (begin : State) (k : ℕ) (w : World) (r : Reached
   unfolding make
   needed-reached =
       let e : Event = own (neededCall (entryAt m 0 .state)) in
-      (k + acceptedCommit e (make program e w .number),
-      subst (λ (x : Made). Reached program begin (k + acceptedCommit e (make program e w .number)) (x .world)) (sym (needed-made (entryAt m 0 .state) program (w .memory) m)) (make-reached program begin k e w r))
+      let j : ℕ = k + acceptedCommit e (make program e w .number) in
+      (j, subst (λ (x : Made). Reached program begin j (x .world)) (sym (needed-made (entryAt m 0 .state) program (w .memory) m)) (make-reached program begin k e w r))
 
 from-unrefused : (n : ℕ) (program : List ℕ) (begin : State) (k : ℕ) (w : World) → Reached program begin k w → (calls : ℕ) → drainFrom n program (w .memory) (w .machine) calls .number ≡ 0
 unfolding drainFrom
