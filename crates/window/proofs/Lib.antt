@@ -12,3 +12,4 @@ pub mod OperationLaws
 pub mod IssueLaws
 pub mod CompleteLaws
 pub mod CommitLaws
+pub mod DrainLaws

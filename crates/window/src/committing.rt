@@ -105,7 +105,7 @@ impl Machine {
     }
 
     // The oldest entry leaves the window: a store writes the data, an entry with a cause halts the machine.
-    pub fn commit(self, program: &[u8], data: &mut [u8]) -> Answer
+    pub fn commit(mut self, program: &[u8], data: &mut [u8]) -> Answer
         ensures { λ r. ⌜ Commit.commitOf (now (program .entry)) (now («data» .entry)) self ≡ record { answer = r; memory = now («data» .exit) } ⌝ }
     {
         let number = self.lent_refusal(program, data);
@@ -115,6 +115,12 @@ impl Machine {
                 number,
             };
         }
-        self.commit_within(data)
+        let answer = self.commit_within(data);
+        let next = answer.machine;
+        self = next;
+        Answer {
+            machine: self,
+            number: answer.number,
+        }
     }
 }

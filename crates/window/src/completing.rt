@@ -211,7 +211,7 @@ impl Machine {
     }
 
     // The entry at a position finds its result and next address, and takes or steals a register.
-    pub fn complete(self, program: &[u8], data: &[u8], position: usize) -> Answer
+    pub fn complete(mut self, program: &[u8], data: &[u8], position: usize) -> Answer
         ensures { λ r. ⌜ r ≡ Complete.completeOf (now (program .entry)) (now («data» .entry)) position self ⌝ }
     {
         let number = self.lent_refusal(program, data);
@@ -221,6 +221,12 @@ impl Machine {
                 number,
             };
         }
-        self.complete_within(position)
+        let answer = self.complete_within(position);
+        let next = answer.machine;
+        self = next;
+        Answer {
+            machine: self,
+            number: answer.number,
+        }
     }
 }

@@ -204,7 +204,7 @@ impl Machine {
     }
 
     // The instruction at the fetch address enters the window, the guess being where a branch or JALR is thought to go.
-    pub fn decode(self, program: &[u8], data: &[u8], guess: u32) -> Answer
+    pub fn decode(mut self, program: &[u8], data: &[u8], guess: u32) -> Answer
         ensures { λ r. ⌜ r ≡ Decode.decodeOf (now (program .entry)) (now («data» .entry)) guess self ⌝ }
     {
         let number = self.lent_refusal(program, data);
@@ -214,6 +214,12 @@ impl Machine {
                 number,
             };
         }
-        self.decode_within(program, guess)
+        let answer = self.decode_within(program, guess);
+        let next = answer.machine;
+        self = next;
+        Answer {
+            machine: self,
+            number: answer.number,
+        }
     }
 }

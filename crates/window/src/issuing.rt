@@ -88,7 +88,7 @@ impl Machine {
     }
 
     // The entry at a position reads its operands, and a load the data.
-    pub fn issue(self, program: &[u8], data: &[u8], position: usize) -> Answer
+    pub fn issue(mut self, program: &[u8], data: &[u8], position: usize) -> Answer
         ensures { λ r. ⌜ r ≡ Issue.issueOf (now (program .entry)) (now («data» .entry)) position self ⌝ }
     {
         let number = self.lent_refusal(program, data);
@@ -98,6 +98,12 @@ impl Machine {
                 number,
             };
         }
-        self.issue_within(data, position)
+        let answer = self.issue_within(data, position);
+        let next = answer.machine;
+        self = next;
+        Answer {
+            machine: self,
+            number: answer.number,
+        }
     }
 }

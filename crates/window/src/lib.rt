@@ -2,6 +2,7 @@
 pub mod committing;
 pub mod completing;
 pub mod decoding;
+pub mod draining;
 pub mod dropping;
 pub mod issuing;
 pub mod lending;
@@ -48,5 +49,12 @@ pub struct Answer {
 // The committed registers, with 0 or refusal 5.
 pub struct Report {
     pub registers: [u32; 32],
+    pub number: u8,
+}
+
+// The machine after a drain, how many calls were accepted, and 0 or the refusal that ended it.
+pub struct Drained {
+    pub machine: Machine,
+    pub calls: u8,
     pub number: u8,
 }

@@ -33,8 +33,8 @@ same-length-2 c = search needs
 
 returns-2 : tie.Need-returns-2
 returns-2 c =
-    let a = (c .before .before .before .before .before .before .before .before .before) .args in
-    commit-lent (now (a .program)) (now (a .«data»)) (a .self) (sym ((c .before .before .before .before .before) .lent-refusal .ensures) ∙ (c .before .before .before .before) .if1 .left) ∙ (c .before .before) .commit-within .ensures
+    let a = (c .before .before .before .before .before .before .before .before .before .before) .args in
+    commit-lent (now (a .program)) (now (a .«data»)) (a .self) (sym ((c .before .before .before .before .before .before) .lent-refusal .ensures) ∙ (c .before .before .before .before .before) .if1 .left) ∙ (c .before .before .before) .commit-within .ensures
 
 pub commit-spec : {M : Type 1} → statement M
 commit-spec =

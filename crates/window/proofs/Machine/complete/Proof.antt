@@ -28,8 +28,8 @@ complete-within-requires c κs =
 
 returns-2 : tie.Need-returns-2
 returns-2 c =
-    let a = (c .before .before .before .before .before) .args in
-    c .complete-within .ensures ∙ complete-lent (now (a .program)) (now (a .«data»)) (a .position) (a .self) (sym ((c .before .before) .lent-refusal .ensures) ∙ (c .before) .if1 .left)
+    let a = (c .before .before .before .before .before .before) .args in
+    (c .before) .complete-within .ensures ∙ complete-lent (now (a .program)) (now (a .«data»)) (a .position) (a .self) (sym ((c .before .before .before) .lent-refusal .ensures) ∙ (c .before .before) .if1 .left)
 
 pub complete-spec : {M : Type 1} → statement M
 complete-spec =

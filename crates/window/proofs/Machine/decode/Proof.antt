@@ -27,8 +27,8 @@ decode-within-requires c κs =
 
 returns-2 : tie.Need-returns-2
 returns-2 c =
-    let a = (c .before .before .before .before .before) .args in
-    c .decode-within .ensures ∙ decode-lent (now (a .program)) (now (a .«data»)) (a .guess) (a .self) (sym ((c .before .before) .lent-refusal .ensures) ∙ (c .before) .if1 .left)
+    let a = (c .before .before .before .before .before .before) .args in
+    (c .before) .decode-within .ensures ∙ decode-lent (now (a .program)) (now (a .«data»)) (a .guess) (a .self) (sym ((c .before .before .before) .lent-refusal .ensures) ∙ (c .before .before) .if1 .left)
 
 pub decode-spec : {M : Type 1} → statement M
 decode-spec = tie.close (tie.spec lent-refusal-requires returns decode-within-requires returns-2)

@@ -28,8 +28,8 @@ issue-within-requires c κs =
 
 returns-2 : tie.Need-returns-2
 returns-2 c =
-    let a = (c .before .before .before .before .before) .args in
-    c .issue-within .ensures ∙ issue-lent (now (a .program)) (now (a .«data»)) (a .position) (a .self) (sym ((c .before .before) .lent-refusal .ensures) ∙ (c .before) .if1 .left)
+    let a = (c .before .before .before .before .before .before) .args in
+    (c .before) .issue-within .ensures ∙ issue-lent (now (a .program)) (now (a .«data»)) (a .position) (a .self) (sym ((c .before .before .before) .lent-refusal .ensures) ∙ (c .before .before) .if1 .left)
 
 pub issue-spec : {M : Type 1} → statement M
 issue-spec = tie.close (tie.spec lent-refusal-requires returns issue-within-requires returns-2)
