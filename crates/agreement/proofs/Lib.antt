@@ -60,6 +60,13 @@ pub mod Steady
 pub mod Fits
 pub mod Safe
 pub mod Ranged
+pub mod Reaching
 pub mod Oldest
 pub mod Onward
 pub mod Demand
+-- drain
+pub mod Shrinks
+pub mod DrainSteps
+pub mod Draining
+pub mod Leading
+pub mod Drained

@@ -29,10 +29,9 @@ use Rattle.agreement.proofs.Liveness.{Holder, room-when-empty, left-rea
 use Rattle.agreement.proofs.Victims.{held-completed}
 use Rattle.agreement.proofs.Views.{seen-length, seen-entry}
 use Rattle.agreement.proofs.Turns.{At}
-use Rattle.agreement.proofs.Accepts.{none-lent, decode-accepted, issue-accepted, complete-accepted, commit-accepted, Supplied, needless, free, younger, supplied-none}
-use Rattle.agreement.proofs.InRange.{in-range}
+use Rattle.agreement.proofs.Accepts.{decode-accepted, issue-accepted, complete-accepted, commit-accepted, Supplied, needless, free, younger, supplied-none}
 use Rattle.agreement.proofs.Safe.{Safe, alive, dead, Reached, make-reached}
-use Rattle.agreement.proofs.Ranged.{alive-range}
+use Rattle.agreement.proofs.Reaching.{reached-lent}
 use Rattle.agreement.proofs.Oldest.{issued-at, completed-at, Entered, waiting, ended, decoded-at}
 
 -- one call more
@@ -50,7 +49,7 @@ module _ (program : List ℕ) (w : World) where
   within-made n call m e q f =
       within-at n call (ap (λ (x : Made). x .number) e) (λ z. subst (λ (x : Made). CommitsWithin n program (x .world)) (sym e) f) q
 
-needed-some : (m : Machine) (s : Stage) → At m 0 s → needed m ≡ neededBy s
+pub needed-some : (m : Machine) (s : Stage) → At m 0 s → needed m ≡ neededBy s
 needed-some m s a =
     let h = a .there in
     ap (λ (b : Bool). choose b (decode (onward (m .fetch))) (neededBy (entryAt m 0 .state))) (ne-eqb (m .count) 0 (λ z. omega arith)) ∙ ap neededBy (a .state)
@@ -70,16 +69,7 @@ pub lively : (program : List ℕ) (start : State) (n : ℕ) (w : World) → Reac
 lively program start n w r z = at (r .safe)
   where
     at : Safe program start n w → Lively program start n w
-    at (alive s run halt memory zeros inv) =
-        let f = r .fit in
-        let m : Machine = w .machine in
-        record {
-          reached = r;
-          state = s;
-          memory = memory;
-          invariant = inv;
-          lent = none-lent m program (w .memory) (in-range m (f .kept) (alive-range program s (coreOf m) inv (ap length (sym memory) ∙ f .bytes) (f .setup) (omega arith))) (f .sized) (f .bytes);
-        }
+    at (alive s run halt memory zeros inv) = record { reached = r; state = s; memory = memory; invariant = inv; lent = reached-lent program start n w r }
     at (dead s k l run halt memory zeros why empty) = absurd (halt z)
 
 module _ (program : List ℕ) (start : State) (n : ℕ) (w : World) (l : Lively program start n w) where
