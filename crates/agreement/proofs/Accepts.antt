@@ -15,14 +15,14 @@ use Rattle.tables.specs.Operand.{isReady}
 use Rattle.tables.specs.Entry.{isWaiting, isIssued, isCompleted, held}
 use Rattle.tables.specs.declared.State.{State as Stage}
 use Rattle.tables.specs.declared.State.the-variants.{Waits, Issued, Completed}
-use Rattle.window.specs.Range.{machineInRange}
-use Rattle.window.specs.Call.{entryAt, halted, noEntry, lengthsDiffer, lentRefusal, inTurn, answered}
-use Rattle.window.specs.Decode.{decodeRefusal, decoded, decodeOf}
-use Rattle.window.specs.Issue.{storeBelow, unready, issueRefusal, issued, issueOf}
-use Rattle.window.specs.Complete.{outcomeAt, victimOf, noVictim, needsRegister, noneFree, completeRefusal, completed, completeOf}
-use Rattle.window.specs.Commit.{commitRefusal, commitBy, commitOf}
-use Rattle.window.specs.declared.Machine.{Machine}
-use Rattle.window.specs.declared.Answer.{Answer}
+use Rattle.machine.specs.Range.{machineInRange}
+use Rattle.machine.specs.Call.{entryAt, halted, noEntry, lengthsDiffer, lentRefusal, inTurn, answered}
+use Rattle.decoding.specs.Decode.{decodeRefusal, decoded, decodeOf}
+use Rattle.issuing.specs.Issue.{storeBelow, unready, issueRefusal, issued, issueOf}
+use Rattle.completing.specs.Complete.{outcomeAt, victimOf, noVictim, needsRegister, noneFree, completeRefusal, completed, completeOf}
+use Rattle.committing.specs.Commit.{commitRefusal, commitBy, commitOf}
+use Rattle.machine.specs.declared.Machine.{Machine}
+use Rattle.machine.specs.declared.Answer.{Answer}
 use Rattle.agreement.specs.Lists.{decode, issue, complete, commit, madeBy, callOf}
 use Rattle.agreement.proofs.Refusals.{first-none, empty-none, in-turn-none, no-some}
 use Rattle.agreement.proofs.Turns.{At}

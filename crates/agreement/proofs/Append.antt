@@ -7,7 +7,7 @@ use lib.ListN.{length, getD, set, length-map}
 use Rattle.reference.specs.Fetch.{fetchAt}
 use Rattle.reference.specs.Step.{State, destination, readRegister, stepOf}
 use Rattle.tables.specs.declared.Entry.{Entry}
-use Rattle.window.specs.Decode.{enteringCause}
+use Rattle.decoding.specs.Decode.{enteringCause}
 use Rattle.agreement.proofs.Core.{Core, append}
 use Rattle.agreement.proofs.Ghost.{Ghost}
 use Rattle.agreement.proofs.Chains.{executionOf, Status, waits, stops, Executes, lastState}

@@ -11,7 +11,7 @@ use Rattle.reference.specs.declared.Stop.{Stop}
 use Rattle.tables.specs.declared.State.{State as Stage}
 use Rattle.tables.specs.declared.State.the-variants.{Waits, Issued, Completed}
 use Rattle.tables.specs.declared.Entry.{Entry}
-use Rattle.window.specs.Decode.{enteringCause}
+use Rattle.decoding.specs.Decode.{enteringCause}
 use Rattle.agreement.proofs.Core.{nameIn}
 use Rattle.agreement.proofs.Ghost.{Ghost}
 

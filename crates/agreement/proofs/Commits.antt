@@ -11,10 +11,10 @@ use Rattle.reference.specs.declared.Stop.{Stop}
 use Rattle.tables.specs.Entry.{emptyEntry}
 use Rattle.tables.specs.declared.State.the-variants.{Completed}
 use Rattle.tables.specs.declared.Entry.{Entry}
-use Rattle.window.specs.Call.{entryAt}
-use Rattle.window.specs.Drop.{dropTo}
-use Rattle.window.specs.Commit.{haltedBy, retired}
-use Rattle.window.specs.declared.Machine.{Machine}
+use Rattle.machine.specs.Call.{entryAt}
+use Rattle.machine.specs.Drop.{dropTo}
+use Rattle.committing.specs.Commit.{haltedBy, retired}
+use Rattle.machine.specs.declared.Machine.{Machine}
 use Rattle.agreement.proofs.Core.{Core, coreOf, dropsTo}
 use Rattle.agreement.proofs.Invariant.{Invariant, Emptied}
 use Rattle.agreement.proofs.Commit.{halt-stops, retire-steps, retire-stores, retire-keeps, drops-emptied, halt-emptied}

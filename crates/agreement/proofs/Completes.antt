@@ -12,9 +12,9 @@ use Rattle.reference.specs.declared.Outcome.{Outcome}
 use Rattle.tables.specs.Entry.{emptyEntry, held, completedEntry, stoppedEntry, waitingEntry}
 use Rattle.tables.specs.declared.State.the-variants.{Issued, Completed}
 use Rattle.tables.specs.declared.Entry.{Entry}
-use Rattle.window.specs.Call.{entryAt, place}
-use Rattle.window.specs.Complete.{outcomeAt, robbed, learned, redirected}
-use Rattle.window.specs.declared.Machine.{Machine}
+use Rattle.machine.specs.Call.{entryAt, place}
+use Rattle.completing.specs.Complete.{outcomeAt, robbed, learned, redirected}
+use Rattle.machine.specs.declared.Machine.{Machine}
 use Rattle.agreement.proofs.Core.{Core, coreOf, informEntry, putHead, placed, release, learn, redirect}
 use Rattle.agreement.proofs.Ghost.{Ghost}
 use Rattle.agreement.proofs.Chains.{renamingOf, Renamed, executionOf, Executes}

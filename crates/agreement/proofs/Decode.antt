@@ -15,7 +15,7 @@ use Rattle.reference.specs.Step.{State, firstSource, secondSource, destination}
 use Rattle.tables.specs.declared.Operand.the-variants.{Zero}
 use Rattle.tables.specs.declared.State.the-variants.{Waits}
 use Rattle.tables.specs.declared.Entry.{Entry}
-use Rattle.window.specs.Decode.{enteringCause, endedEntry}
+use Rattle.decoding.specs.Decode.{enteringCause, endedEntry}
 use Rattle.agreement.proofs.Core.{Core, operandFor, append}
 use Rattle.agreement.proofs.Invariant.{Invariant}
 use Rattle.agreement.proofs.Tests.{equal, apart, eq?}

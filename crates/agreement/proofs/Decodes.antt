@@ -20,10 +20,10 @@ use Rattle.tables.specs.Entry.{emptyEntry, issuedEntry}
 use Rattle.tables.specs.declared.State.the-variants.{Waits}
 use Rattle.tables.specs.declared.Entry.{Entry}
 use Rattle.tables.proofs.TableLaws.{look-zero}
-use Rattle.window.specs.Call.{entryAt}
-use Rattle.window.specs.Decode.{enteringCause, endedEntry, operandOn, nameFor, startedEntry, entryFor, decoded}
-use Rattle.window.specs.Issue.{storeBelow, issued}
-use Rattle.window.specs.declared.Machine.{Machine}
+use Rattle.machine.specs.Call.{entryAt}
+use Rattle.decoding.specs.Decode.{enteringCause, endedEntry, operandOn, nameFor, startedEntry, entryFor, decoded}
+use Rattle.issuing.specs.Issue.{storeBelow, issued}
+use Rattle.machine.specs.declared.Machine.{Machine}
 use Rattle.agreement.proofs.Core.{Core, coreOf, operandFor, placed, append}
 use Rattle.agreement.proofs.Ghost.{Ghost, Writers}
 use Rattle.agreement.proofs.Invariant.{Accounting, Invariant}

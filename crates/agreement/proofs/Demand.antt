@@ -14,10 +14,10 @@ use Rattle.reference.specs.Step.{State}
 use Rattle.reference.specs.declared.Stop.{Stop}
 use Rattle.tables.specs.Table.{lookUp}
 use Rattle.tables.proofs.TableLaws.{look-within}
-use Rattle.window.specs.Drop.{dropTo}
-use Rattle.window.specs.Report.{valueIn}
-use Rattle.window.specs.declared.Machine.{Machine}
-use Rattle.window.proofs.DropLaws.{drop-done}
+use Rattle.machine.specs.Drop.{dropTo}
+use Rattle.machine.specs.Report.{valueIn}
+use Rattle.machine.specs.declared.Machine.{Machine}
+use Rattle.machine.proofs.DropLaws.{drop-done}
 use Rattle.agreement.specs.Lists.{World, makeAll, acceptedCommits, started, origin}
 use Rattle.agreement.specs.Statement.{Agrees, Statement}
 use Rattle.agreement.proofs.Core.{coreOf}

@@ -12,14 +12,14 @@ use Rattle.reference.specs.declared.Stop.{Stop}
 use Rattle.tables.specs.Entry.{emptyEntry, stateNumber}
 use Rattle.tables.specs.declared.State.{State as Stage}
 use Rattle.tables.specs.declared.State.the-variants.{Waits, Issued, Completed}
-use Rattle.window.specs.Call.{entryAt, halted, lentRefusal, inTurn, answered}
-use Rattle.window.specs.Drop.{dropTo}
-use Rattle.window.specs.Issue.{issueRefusal, issued, issueOf}
-use Rattle.window.specs.Complete.{completeRefusal, completed, completeOf}
-use Rattle.window.specs.Commit.{commitRefusal, haltedBy, moveDown, retired, committed, writtenBy, Commit, commitBy, commitOf}
+use Rattle.machine.specs.Call.{entryAt, halted, lentRefusal, inTurn, answered}
+use Rattle.machine.specs.Drop.{dropTo}
+use Rattle.issuing.specs.Issue.{issueRefusal, issued, issueOf}
+use Rattle.completing.specs.Complete.{completeRefusal, completed, completeOf}
+use Rattle.committing.specs.Commit.{commitRefusal, haltedBy, moveDown, retired, committed, writtenBy, Commit, commitBy, commitOf}
 use Rattle.window.specs.Drain.{neededBy, idle}
-use Rattle.window.specs.declared.Machine.{Machine}
-use Rattle.window.specs.declared.Answer.{Answer}
+use Rattle.machine.specs.declared.Machine.{Machine}
+use Rattle.machine.specs.declared.Answer.{Answer}
 use Rattle.agreement.proofs.Refusals.{is-zero}
 use Rattle.agreement.proofs.Tests.{by-choice}
 use Rattle.agreement.proofs.Turns.{At}

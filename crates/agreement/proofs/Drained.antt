@@ -8,10 +8,10 @@ use lib.ListN.{length}
 use Rattle.isa.specs.Reads.{choose}
 use Rattle.reference.specs.Step.{State}
 use Rattle.tables.specs.declared.State.{State as Stage}
-use Rattle.window.specs.Call.{entryAt, lentRefusal}
-use Rattle.window.specs.Commit.{Commit}
+use Rattle.machine.specs.Call.{entryAt, lentRefusal}
+use Rattle.committing.specs.Commit.{Commit}
 use Rattle.window.specs.Drain.{neededOf, Drain, idle, drainEnds, drainFrom, drainOf}
-use Rattle.window.specs.declared.Machine.{Machine}
+use Rattle.machine.specs.declared.Machine.{Machine}
 use Rattle.agreement.specs.Lists.{Call, Event, own, World, Made, callOf, make, makeAll, acceptedCommit, acceptedCommits, started, origin, neededBy as neededCall, needed, CommitsWithin}
 use Rattle.agreement.specs.Drained.{Drained}
 use Rattle.agreement.proofs.Tests.{by-choice}

@@ -12,13 +12,13 @@ use Rattle.isa.specs.Reads.{choose}
 use Rattle.laws.proofs.Bools.{impossible, and-left, and-right}
 use Rattle.tables.specs.Entry.{emptyEntry}
 use Rattle.tables.specs.declared.Entry.{Entry}
-use Rattle.window.specs.Range.{everyFrom, setupInRange, entryInRange, entriesInRange, tablesInRange, machineInRange}
-use Rattle.window.specs.Call.{entryAt, lentRefusal}
-use Rattle.window.specs.Commit.{Commit}
+use Rattle.machine.specs.Range.{everyFrom, setupInRange, entryInRange, entriesInRange, tablesInRange, machineInRange}
+use Rattle.machine.specs.Call.{entryAt, lentRefusal}
+use Rattle.committing.specs.Commit.{Commit}
 use Rattle.window.specs.Drain.{neededOf, Drain, idle, drainEnds, drainFrom, drainOf}
-use Rattle.window.specs.declared.Setup.{Setup}
-use Rattle.window.specs.declared.Machine.{Machine}
-use Rattle.window.proofs.RefusalLaws.{in-range-lent}
+use Rattle.machine.specs.declared.Setup.{Setup}
+use Rattle.machine.specs.declared.Machine.{Machine}
+use Rattle.machine.proofs.RefusalLaws.{in-range-lent}
 use Rattle.agreement.proofs.Tests.{by-choice}
 use Rattle.agreement.proofs.DrainSteps.{ahead, none-ahead, idle-empty, busy, Lower, needed-lowers}
 

@@ -12,7 +12,7 @@ use Rattle.reference.specs.Step.{firstSource, secondSource, destination}
 use Rattle.tables.specs.FreeList.{occurrences}
 use Rattle.tables.specs.declared.State.the-variants.{Waits, Completed}
 use Rattle.tables.specs.declared.Entry.{Entry}
-use Rattle.window.specs.Decode.{enteringCause}
+use Rattle.decoding.specs.Decode.{enteringCause}
 use Rattle.agreement.proofs.Core.{Core, operandFor, nameIn, append}
 use Rattle.agreement.proofs.Ghost.{Ghost}
 use Rattle.agreement.proofs.Chains.{renamingOf, Renamed, lastNames}

@@ -8,15 +8,15 @@ use Rattle.reference.specs.Fetch.{fetchAt}
 use Rattle.reference.proofs.Laws.{statement}
 use Rattle.tables.specs.Entry.{stoppedEntry, completedEntry, held}
 use Rattle.tables.specs.declared.Entry.{Entry}
-use Rattle.window.specs.Range.{setupInRange}
-use Rattle.window.specs.Call.{entryAt, place}
-use Rattle.window.specs.Drop.{dropTo}
-use Rattle.window.specs.Decode.{entryFor}
-use Rattle.window.specs.Issue.{issued}
-use Rattle.window.specs.Complete.{outcomeAt, robbed, learned}
-use Rattle.window.specs.Commit.{retired}
-use Rattle.window.specs.declared.Setup.{Setup}
-use Rattle.window.specs.declared.Machine.{Machine}
+use Rattle.machine.specs.Range.{setupInRange}
+use Rattle.machine.specs.Call.{entryAt, place}
+use Rattle.machine.specs.Drop.{dropTo}
+use Rattle.decoding.specs.Decode.{entryFor}
+use Rattle.issuing.specs.Issue.{issued}
+use Rattle.completing.specs.Complete.{outcomeAt, robbed, learned}
+use Rattle.committing.specs.Commit.{retired}
+use Rattle.machine.specs.declared.Setup.{Setup}
+use Rattle.machine.specs.declared.Machine.{Machine}
 use Rattle.agreement.specs.Lists.{Call, World, Made, madeBy}
 use Rattle.agreement.proofs.Kept.{Kept, kept-enter, kept-place, kept-robbed, kept-learned, kept-drops, kept-redirected, kept-retired, kept-halted}
 use Rattle.agreement.proofs.Turns.{Turn, refused, enters, issues, ends, settles, takes, steals, retires, halts}

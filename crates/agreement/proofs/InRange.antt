@@ -14,11 +14,11 @@ use Rattle.tables.specs.Entry.{emptyEntry, isCompleted}
 use Rattle.tables.specs.declared.State.{State as Stage}
 use Rattle.tables.specs.declared.State.the-variants.{Waits, Issued, Completed}
 use Rattle.tables.specs.declared.Entry.{Entry}
-use Rattle.window.specs.Machine.{namesOf}
-use Rattle.window.specs.Range.{within, setupInRange, operandInRange, isNone, instructionInRange, causeInRange, storeInRange, entryInRange, entriesInRange, tablesInRange, machineInRange}
-use Rattle.window.specs.declared.Setup.{Setup}
-use Rattle.window.specs.declared.Machine.{Machine}
-use Rattle.window.proofs.RangeLaws.{every-holds}
+use Rattle.machine.specs.Machine.{namesOf}
+use Rattle.machine.specs.Range.{within, setupInRange, operandInRange, isNone, instructionInRange, causeInRange, storeInRange, entryInRange, entriesInRange, tablesInRange, machineInRange}
+use Rattle.machine.specs.declared.Setup.{Setup}
+use Rattle.machine.specs.declared.Machine.{Machine}
+use Rattle.machine.proofs.RangeLaws.{every-holds}
 use Rattle.agreement.proofs.Core.{Core, coreOf, operandFor}
 use Rattle.agreement.proofs.Kept.{Kept}
 use Rattle.agreement.proofs.Views.{seen-length, seen-entry}

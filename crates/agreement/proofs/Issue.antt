@@ -15,7 +15,7 @@ use Rattle.tables.specs.declared.Operand.{Operand}
 use Rattle.tables.specs.declared.State.the-variants.{Waits}
 use Rattle.tables.specs.declared.Entry.{Entry}
 use Rattle.tables.proofs.TableLaws.{look-within}
-use Rattle.window.specs.Issue.{storeBelow}
+use Rattle.issuing.specs.Issue.{storeBelow}
 use Rattle.agreement.proofs.Core.{Core, operandFor, nameIn, placed}
 use Rattle.agreement.proofs.Ghost.{Ghost, Agree}
 use Rattle.agreement.proofs.Chains.{renamingOf, Renamed, executionOf, waits, reads, done, stops, Executes}

@@ -14,14 +14,14 @@ use Rattle.tables.specs.Table.{lookUnder, lookUp, lookValid, storeUnder}
 use Rattle.tables.specs.Entry.{emptyEntry, completedEntry, waitingEntry, sleepEntry, wakeEntry}
 use Rattle.tables.specs.declared.Entry.{Entry}
 use Rattle.tables.proofs.TableLaws.{store-length}
-use Rattle.window.specs.SetUp.{freshMachine, risingNext, risingLink, ownNumbers}
-use Rattle.window.specs.Call.{place, entryAt}
-use Rattle.window.specs.Decode.{enter}
-use Rattle.window.specs.Drop.{dropYoungest, dropMany, dropTo, restored}
-use Rattle.window.specs.Complete.{shows, robbed, learned, refetched, redirected}
-use Rattle.window.specs.Commit.{haltedBy, moveDown, retired}
-use Rattle.window.specs.declared.Machine.{Machine}
-use Rattle.window.proofs.TabulateLaws.{tabulate-length}
+use Rattle.machine.specs.SetUp.{freshMachine, risingNext, risingLink, ownNumbers}
+use Rattle.machine.specs.Call.{place, entryAt}
+use Rattle.decoding.specs.Decode.{enter}
+use Rattle.machine.specs.Drop.{dropYoungest, dropMany, dropTo, restored}
+use Rattle.completing.specs.Complete.{shows, robbed, learned, refetched, redirected}
+use Rattle.committing.specs.Commit.{haltedBy, moveDown, retired}
+use Rattle.machine.specs.declared.Machine.{Machine}
+use Rattle.machine.proofs.TabulateLaws.{tabulate-length}
 use Rattle.agreement.proofs.Stores.{change-length}
 
 -- a valid bit says that the general map shows a register

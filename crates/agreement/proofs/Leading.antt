@@ -11,14 +11,14 @@ use lib.Dec.{eqb}
 use Rattle.isa.specs.Reads.{choose}
 use Rattle.tables.specs.declared.State.{State as Stage}
 use Rattle.tables.specs.declared.State.the-variants.{Waits, Issued, Completed}
-use Rattle.window.specs.Call.{entryAt, lentRefusal, inTurn, answered}
-use Rattle.window.specs.Issue.{issueRefusal, issued, issueOf}
-use Rattle.window.specs.Complete.{completeRefusal, completed, completeOf}
-use Rattle.window.specs.Commit.{commitRefusal, committed, writtenBy, Commit, commitBy, commitOf}
+use Rattle.machine.specs.Call.{entryAt, lentRefusal, inTurn, answered}
+use Rattle.issuing.specs.Issue.{issueRefusal, issued, issueOf}
+use Rattle.completing.specs.Complete.{completeRefusal, completed, completeOf}
+use Rattle.committing.specs.Commit.{commitRefusal, committed, writtenBy, Commit, commitBy, commitOf}
 use Rattle.window.specs.Drain.{neededBy, neededOf, Drain, idle, drainEnds, drainFrom, drainOf}
-use Rattle.window.specs.declared.Machine.{Machine}
-use Rattle.window.specs.declared.Answer.{Answer}
-use Rattle.window.proofs.RefusalLaws.{lent-first}
+use Rattle.machine.specs.declared.Machine.{Machine}
+use Rattle.machine.specs.declared.Answer.{Answer}
+use Rattle.machine.proofs.RefusalLaws.{lent-first}
 use Rattle.agreement.specs.Lists.{own, World, Made, madeBy, callOf, make, neededBy as neededCall}
 use Rattle.agreement.specs.Drained.{Leads}
 use Rattle.agreement.proofs.Tests.{by-choice}

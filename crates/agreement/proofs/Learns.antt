@@ -12,9 +12,9 @@ use Rattle.tables.specs.FreeList.{takenHead, takenLink}
 use Rattle.tables.specs.Entry.{emptyEntry, held, completedEntry, waitingEntry, sleepEntry, wakeEntry}
 use Rattle.tables.specs.declared.Entry.{Entry}
 use Rattle.tables.proofs.TableLaws.{look-within, look-zero, store-within, store-zero}
-use Rattle.window.specs.Call.{entryAt, changeFirst}
-use Rattle.window.specs.Complete.{robbed, learned}
-use Rattle.window.specs.declared.Machine.{Machine}
+use Rattle.machine.specs.Call.{entryAt, changeFirst}
+use Rattle.completing.specs.Complete.{robbed, learned}
+use Rattle.machine.specs.declared.Machine.{Machine}
 use Rattle.agreement.proofs.Core.{Core, coreOf, informEntry, putHead, putLink, reshown, release, learn}
 use Rattle.agreement.proofs.Stores.{wake-entry, sleep-entry, first-changed, map-alike}
 use Rattle.agreement.proofs.Kept.{Kept}

@@ -13,13 +13,13 @@ use Rattle.tables.specs.Entry.{emptyEntry, completedEntry, stoppedEntry, predic
 use Rattle.tables.specs.declared.State.{State as Stage}
 use Rattle.tables.specs.declared.State.the-variants.{Waits, Issued, Completed}
 use Rattle.tables.specs.declared.Entry.{Entry}
-use Rattle.window.specs.Call.{entryAt, place}
-use Rattle.window.specs.Drop.{dropYoungest, dropMany, dropTo}
-use Rattle.window.specs.Decode.{enteringCause, startedEntry, endedEntry, enter, decoded}
-use Rattle.window.specs.Issue.{issued}
-use Rattle.window.specs.Complete.{outcomeAt, victimOf, noneFree, registerFor, suppliedFor, robbed, learned, registered, refetched, redirected, completed}
-use Rattle.window.specs.declared.Machine.{Machine}
-use Rattle.window.proofs.DropLaws.{drop-count}
+use Rattle.machine.specs.Call.{entryAt, place}
+use Rattle.machine.specs.Drop.{dropYoungest, dropMany, dropTo}
+use Rattle.decoding.specs.Decode.{enteringCause, startedEntry, endedEntry, enter, decoded}
+use Rattle.issuing.specs.Issue.{issued}
+use Rattle.completing.specs.Complete.{outcomeAt, victimOf, noneFree, registerFor, suppliedFor, robbed, learned, registered, refetched, redirected, completed}
+use Rattle.machine.specs.declared.Machine.{Machine}
+use Rattle.machine.proofs.DropLaws.{drop-count}
 use Rattle.agreement.proofs.Stores.{change-length}
 use Rattle.agreement.proofs.Turns.{At}
 use Rattle.agreement.proofs.Tests.{by-choice}

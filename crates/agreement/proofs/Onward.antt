@@ -16,11 +16,11 @@ use Rattle.tables.specs.Operand.{isReady}
 use Rattle.tables.specs.declared.State.{State as Stage}
 use Rattle.tables.specs.declared.State.the-variants.{Waits, Issued, Completed}
 use Rattle.tables.specs.declared.Entry.{Entry}
-use Rattle.window.specs.Call.{entryAt, lentRefusal}
-use Rattle.window.specs.Decode.{decoded}
-use Rattle.window.specs.Issue.{storeBelow, issued}
-use Rattle.window.specs.Complete.{completed}
-use Rattle.window.specs.declared.Machine.{Machine}
+use Rattle.machine.specs.Call.{entryAt, lentRefusal}
+use Rattle.decoding.specs.Decode.{decoded}
+use Rattle.issuing.specs.Issue.{storeBelow, issued}
+use Rattle.completing.specs.Complete.{completed}
+use Rattle.machine.specs.declared.Machine.{Machine}
 use Rattle.agreement.specs.Lists.{Call, decode, issue, complete, commit, own, World, Made, madeBy, callOf, make, isCommit, acceptedCommit, neededBy, needed, CommitsWithin}
 use Rattle.agreement.proofs.Core.{Core, coreOf}
 use Rattle.agreement.proofs.Invariant.{Invariant}

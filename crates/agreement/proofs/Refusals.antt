@@ -8,7 +8,7 @@ use lib.Dec.{eqb}
 use Rattle.isa.specs.Reads.{choose}
 use Rattle.reference.specs.Step.{when, first}
 use Rattle.laws.proofs.Bools.{impossible}
-use Rattle.window.specs.Call.{inTurn}
+use Rattle.machine.specs.Call.{inTurn}
 
 pub record Passed (b : Bool) (rest : List ℕ) : Type 0 where
   pub here : b ≡ false

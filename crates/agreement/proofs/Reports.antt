@@ -8,12 +8,12 @@ use lib.ListN.{length, getD}
 use lib.Seq.{ext-getD}
 use Rattle.tables.specs.Table.{lookUp}
 use Rattle.tables.proofs.TableLaws.{look-zero}
-use Rattle.window.specs.Range.{machineInRange}
-use Rattle.window.specs.Drop.{dropTo}
-use Rattle.window.specs.Report.{valueIn, valuesIn, reportOf}
-use Rattle.window.specs.declared.Machine.{Machine}
-use Rattle.window.proofs.ReportLaws.{report-given}
-use Rattle.window.proofs.TabulateLaws.{tabulate-length, tabulate-at}
+use Rattle.machine.specs.Range.{machineInRange}
+use Rattle.machine.specs.Drop.{dropTo}
+use Rattle.machine.specs.Report.{valueIn, valuesIn, reportOf}
+use Rattle.machine.specs.declared.Machine.{Machine}
+use Rattle.machine.proofs.ReportLaws.{report-given}
+use Rattle.machine.proofs.TabulateLaws.{tabulate-length, tabulate-at}
 
 -- x0 shows no register, and no register has value 0
 zero-value : (m : Machine) → valueIn m 0 ≡ 0

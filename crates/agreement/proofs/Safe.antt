@@ -17,12 +17,12 @@ use Rattle.reference.specs.declared.Stop.{Stop}
 use Rattle.reference.proofs.Laws.{statement}
 use Rattle.tables.specs.Entry.{stoppedEntry, completedEntry, held}
 use Rattle.tables.specs.declared.Entry.{Entry}
-use Rattle.window.specs.Call.{entryAt, place}
-use Rattle.window.specs.Drop.{dropTo}
-use Rattle.window.specs.Decode.{entryFor}
-use Rattle.window.specs.Complete.{outcomeAt, robbed, learned}
-use Rattle.window.specs.Commit.{haltedBy}
-use Rattle.window.specs.declared.Machine.{Machine}
+use Rattle.machine.specs.Call.{entryAt, place}
+use Rattle.machine.specs.Drop.{dropTo}
+use Rattle.decoding.specs.Decode.{entryFor}
+use Rattle.completing.specs.Complete.{outcomeAt, robbed, learned}
+use Rattle.committing.specs.Commit.{haltedBy}
+use Rattle.machine.specs.declared.Machine.{Machine}
 use Rattle.agreement.specs.Lists.{Call, decode, issue, complete, commit, Event, World, Made, madeBy, make, makeAll, isCommit, callIn, acceptedCommit, acceptedCommits}
 use Rattle.agreement.proofs.Core.{coreOf}
 use Rattle.agreement.proofs.Invariant.{Invariant, Emptied}

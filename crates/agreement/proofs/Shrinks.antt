@@ -8,11 +8,11 @@ use lib.ListN.{length, set, length-set}
 use Rattle.reference.specs.declared.Outcome.{Outcome}
 use Rattle.tables.specs.Entry.{emptyEntry, completedEntry, stoppedEntry, predictedEntry, waitingEntry, wakeEntry, sleepEntry}
 use Rattle.tables.specs.declared.Entry.{Entry}
-use Rattle.window.specs.Call.{entryAt, place}
-use Rattle.window.specs.Drop.{dropYoungest, dropMany, dropTo}
-use Rattle.window.specs.Issue.{issued}
-use Rattle.window.specs.Complete.{outcomeAt, victimOf, noneFree, registerFor, suppliedFor, robbed, learned, registered, refetched, redirected, completed}
-use Rattle.window.specs.declared.Machine.{Machine}
+use Rattle.machine.specs.Call.{entryAt, place}
+use Rattle.machine.specs.Drop.{dropYoungest, dropMany, dropTo}
+use Rattle.issuing.specs.Issue.{issued}
+use Rattle.completing.specs.Complete.{outcomeAt, victimOf, noneFree, registerFor, suppliedFor, robbed, learned, registered, refetched, redirected, completed}
+use Rattle.machine.specs.declared.Machine.{Machine}
 use Rattle.agreement.proofs.Stores.{change-length}
 use Rattle.agreement.proofs.Tests.{by-choice}
 

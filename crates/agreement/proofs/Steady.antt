@@ -6,12 +6,12 @@ use lib.Dec.{eqb}
 use Rattle.isa.specs.Reads.{choose}
 use Rattle.reference.specs.declared.Stop.{Stop}
 use Rattle.tables.specs.declared.Entry.{Entry}
-use Rattle.window.specs.Call.{entryAt, place}
-use Rattle.window.specs.Decode.{enter}
-use Rattle.window.specs.Drop.{dropYoungest, dropMany, dropTo}
-use Rattle.window.specs.Complete.{robbed, learned, refetched, redirected}
-use Rattle.window.specs.Commit.{haltedBy, retired}
-use Rattle.window.specs.declared.Machine.{Machine}
+use Rattle.machine.specs.Call.{entryAt, place}
+use Rattle.decoding.specs.Decode.{enter}
+use Rattle.machine.specs.Drop.{dropYoungest, dropMany, dropTo}
+use Rattle.completing.specs.Complete.{robbed, learned, refetched, redirected}
+use Rattle.committing.specs.Commit.{haltedBy, retired}
+use Rattle.machine.specs.declared.Machine.{Machine}
 
 pub record Steady (a b : Machine) : Type 0 where
   pub setup : b .setup ≡ a .setup

@@ -24,7 +24,7 @@ use Rattle.reference.specs.declared.Stop.{Stop}
 use Rattle.reference.specs.declared.Outcome.{Outcome}
 use Rattle.reference.proofs.StepLaws.{choose-either, step-registers}
 use Rattle.reference.proofs.Laws.{statement}
-use Rattle.window.specs.Decode.{enteringCause}
+use Rattle.decoding.specs.Decode.{enteringCause}
 use Rattle.agreement.proofs.Tests.{equal, apart, eq?, impossible}
 
 -- a fetch: an instruction and no cause, or a cause and no instruction

@@ -16,15 +16,15 @@ use Rattle.tables.specs.Entry.{isWaiting, isIssued, isCompleted, stoppedEntry, 
 use Rattle.tables.specs.declared.State.{State as Stage}
 use Rattle.tables.specs.declared.State.the-variants.{Waits, Issued, Completed}
 use Rattle.tables.specs.declared.Entry.{Entry}
-use Rattle.window.specs.Range.{machineInRange}
-use Rattle.window.specs.Call.{entryAt, place, halted, noEntry, lengthsDiffer, lentRefusal, inTurn, answered}
-use Rattle.window.specs.Drop.{dropTo}
-use Rattle.window.specs.Decode.{decodeRefusal, decoded, decodeOf}
-use Rattle.window.specs.Issue.{storeBelow, unready, issueRefusal, issued, issueOf}
-use Rattle.window.specs.Complete.{outcomeAt, victimOf, noVictim, needsRegister, noneFree, completeRefusal, robbed, learned, redirected, completed, completeOf}
-use Rattle.window.specs.Commit.{commitRefusal, haltedBy, retired, committed, writtenBy, Commit, commitBy, commitOf}
-use Rattle.window.specs.declared.Machine.{Machine}
-use Rattle.window.specs.declared.Answer.{Answer}
+use Rattle.machine.specs.Range.{machineInRange}
+use Rattle.machine.specs.Call.{entryAt, place, halted, noEntry, lengthsDiffer, lentRefusal, inTurn, answered}
+use Rattle.machine.specs.Drop.{dropTo}
+use Rattle.decoding.specs.Decode.{decodeRefusal, decoded, decodeOf}
+use Rattle.issuing.specs.Issue.{storeBelow, unready, issueRefusal, issued, issueOf}
+use Rattle.completing.specs.Complete.{outcomeAt, victimOf, noVictim, needsRegister, noneFree, completeRefusal, robbed, learned, redirected, completed, completeOf}
+use Rattle.committing.specs.Commit.{commitRefusal, haltedBy, retired, committed, writtenBy, Commit, commitBy, commitOf}
+use Rattle.machine.specs.declared.Machine.{Machine}
+use Rattle.machine.specs.declared.Answer.{Answer}
 use Rattle.agreement.specs.Lists.{Call, decode, issue, complete, commit, Event, own, other, World, Made, madeBy, callOf, aside, make, callIn}
 use Rattle.agreement.proofs.Refusals.{none-first, in-turn, in-turn-lent, is-zero, and-false}
 use Rattle.agreement.proofs.Victims.{victim-is}

@@ -15,13 +15,13 @@ use Rattle.tables.specs.FreeList.{freedHead, freedLink, takenHead}
 use Rattle.tables.specs.Entry.{emptyEntry, predictedEntry}
 use Rattle.tables.specs.declared.Entry.{Entry}
 use Rattle.tables.proofs.TableLaws.{store-within, store-zero}
-use Rattle.window.specs.Call.{entryAt, place}
-use Rattle.window.specs.Decode.{enter}
-use Rattle.window.specs.Drop.{dropYoungest, dropMany, dropTo}
-use Rattle.window.specs.Complete.{refetched, redirected}
-use Rattle.window.specs.Commit.{haltedBy, moveDown, retired}
-use Rattle.window.specs.declared.Machine.{Machine}
-use Rattle.window.proofs.DropLaws.{drop-count}
+use Rattle.machine.specs.Call.{entryAt, place}
+use Rattle.decoding.specs.Decode.{enter}
+use Rattle.machine.specs.Drop.{dropYoungest, dropMany, dropTo}
+use Rattle.completing.specs.Complete.{refetched, redirected}
+use Rattle.committing.specs.Commit.{haltedBy, moveDown, retired}
+use Rattle.machine.specs.declared.Machine.{Machine}
+use Rattle.machine.proofs.DropLaws.{drop-count}
 use Rattle.agreement.proofs.Core.{Core, coreOf, dropAt, dropsTo, placed, retire, append, steer, redirect}
 use Rattle.agreement.proofs.Stores.{store-set, look-get, freed-head, freed-link}
 use Rattle.agreement.proofs.Kept.{Kept, kept-drop}

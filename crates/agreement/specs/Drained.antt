@@ -5,10 +5,10 @@ use mathlib.Core.Logic.{_≢_}
 use mathlib.Core.Bool.{true}
 use mathlib.Core.List.{List}
 use lib.ListN.{length}
-use Rattle.window.specs.SetUp.{setUpRefusal}
-use Rattle.window.specs.Call.{entryAt, lentRefusal}
+use Rattle.machine.specs.SetUp.{setUpRefusal}
+use Rattle.machine.specs.Call.{entryAt, lentRefusal}
 use Rattle.window.specs.Drain.{Drain, idle, drainEnds, drainOf}
-use Rattle.window.specs.declared.Machine.{Machine}
+use Rattle.machine.specs.declared.Machine.{Machine}
 use Rattle.agreement.specs.Lists.{Event, own, World, Made, make, makeAll, started, neededBy}
 
 -- so many calls that position 0 needs, all accepted, lead from one world to another

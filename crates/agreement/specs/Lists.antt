@@ -10,14 +10,14 @@ use Rattle.reference.specs.Execute.{onward}
 use Rattle.reference.specs.Step.{State, state}
 use Rattle.tables.specs.declared.State.{State as Stage}
 use Rattle.tables.specs.declared.State.the-variants.{Waits, Issued, Completed}
-use Rattle.window.specs.SetUp.{freshMachine}
-use Rattle.window.specs.Call.{entryAt, lengthsDiffer}
-use Rattle.window.specs.Decode.{decodeOf}
-use Rattle.window.specs.Issue.{issueOf}
-use Rattle.window.specs.Complete.{completeOf}
-use Rattle.window.specs.Commit.{Commit, commitOf}
-use Rattle.window.specs.declared.Machine.{Machine}
-use Rattle.window.specs.declared.Answer.{Answer}
+use Rattle.machine.specs.SetUp.{freshMachine}
+use Rattle.machine.specs.Call.{entryAt, lengthsDiffer}
+use Rattle.decoding.specs.Decode.{decodeOf}
+use Rattle.issuing.specs.Issue.{issueOf}
+use Rattle.completing.specs.Complete.{completeOf}
+use Rattle.committing.specs.Commit.{Commit, commitOf}
+use Rattle.machine.specs.declared.Machine.{Machine}
+use Rattle.machine.specs.declared.Answer.{Answer}
 
 -- a call, by its guess or position
 pub data Call : Type 0 where

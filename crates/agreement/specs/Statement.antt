@@ -6,8 +6,8 @@ use lib.Dec.{eqb}
 use lib.ListN.{length}
 use Rattle.isa.specs.Reads.{choose}
 use Rattle.reference.specs.Run.{Run, runOf}
-use Rattle.window.specs.SetUp.{setUpRefusal}
-use Rattle.window.specs.Report.{reportOf}
+use Rattle.machine.specs.SetUp.{setUpRefusal}
+use Rattle.machine.specs.Report.{reportOf}
 use Rattle.agreement.specs.Lists.{Event, World, makeAll, acceptedCommits, started, origin, CommitsWithin}
 
 -- a world after so many accepted commits, against the in-order run asked for as many steps

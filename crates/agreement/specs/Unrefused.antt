@@ -4,8 +4,8 @@ use mathlib.Core.Path.{_≡_}
 use mathlib.Core.Bool.{true}
 use mathlib.Core.List.{List}
 use lib.ListN.{length}
-use Rattle.window.specs.SetUp.{setUpRefusal}
-use Rattle.window.specs.Range.{machineInRange}
+use Rattle.machine.specs.SetUp.{setUpRefusal}
+use Rattle.machine.specs.Range.{machineInRange}
 use Rattle.agreement.specs.Lists.{Event, World, makeAll, started}
 
 abbrev pub Unrefused : Type 0

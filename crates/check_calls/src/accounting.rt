@@ -1,6 +1,6 @@
 // Every physical register and every name is in exactly one place: in the pool, committed, or with one entry.
+use machine::Machine;
 use tables::entries;
-use window::Machine;
 
 fn once_more(n: u8) -> u8 {
     if n < 255 { n + 1 } else { n }

@@ -2,11 +2,12 @@
 ghost use Prim.Native.Nat.{_<_};
 use crate::chance::draw;
 use isa::Instruction;
+use machine::Answer;
+use machine::Machine;
 use reference::Fetching;
 use tables::Entry;
 use tables::entries;
-use window::Answer;
-use window::Machine;
+use window::Core;
 
 pub struct Call {
     pub kind: u8,
@@ -22,13 +23,24 @@ pub const COMPLETE: u8 = 3;
 
 pub const COMMIT: u8 = 4;
 
-pub fn made(m: Machine, program: &[u8], data: &mut [u8], c: Call) -> Answer {
+fn called(core: Core, program: &[u8], data: &mut [u8], c: Call) -> window::Answer {
     let kind = c.kind;
     match kind {
-        DECODE => m.decode(program, data, c.guess),
-        ISSUE => m.issue(program, data, c.position),
-        COMPLETE => m.complete(program, data, c.position),
-        _ => m.commit(program, data),
+        DECODE => core.decode(program, data, c.guess),
+        ISSUE => core.issue(program, data, c.position),
+        COMPLETE => core.complete(program, data, c.position),
+        _ => core.commit(program, data),
+    }
+}
+
+pub fn made(m: Machine, program: &[u8], data: &mut [u8], c: Call) -> Answer {
+    let core = Core { machine: m };
+    let answer = called(core, program, data, c);
+    let after = answer.core;
+    let machine = after.machine;
+    Answer {
+        machine,
+        number: answer.number,
     }
 }
 

@@ -1,8 +1,8 @@
 // Machines compared with one another and with the in-order run.
 use crate::calls;
+use machine::Machine;
 use tables::Entry;
 use tables::Operand;
-use window::Machine;
 
 // the in-order run: registers, next address, and cause once it stopped
 pub struct Ordered {

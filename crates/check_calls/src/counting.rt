@@ -1,7 +1,7 @@
 // What was seen, each kind at its place of a table of counts.
 use crate::calls;
 use crate::calls::Call;
-use window::Machine;
+use machine::Machine;
 
 pub const LISTS: usize = 0;
 

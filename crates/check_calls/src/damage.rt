@@ -3,7 +3,7 @@ use crate::calls;
 use crate::calls::Call;
 use crate::comparing;
 use crate::counting;
-use window::Machine;
+use machine::Machine;
 
 fn damaged(m: Machine, k: u32) -> Machine {
     let mut d = m;

@@ -9,7 +9,7 @@ use crate::comparing::Ordered;
 use crate::counting;
 use crate::damage;
 use crate::programs;
-use window::Machine;
+use machine::Machine;
 
 struct Run {
     machine: Machine,

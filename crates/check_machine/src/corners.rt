@@ -4,7 +4,7 @@ use crate::judging;
 use crate::judging::Tally;
 use crate::samples;
 use libc::STDOUT_FILENO;
-use window::Machine;
+use machine::Machine;
 
 fn window_at(k: u32) -> u32 {
     match k {

@@ -7,8 +7,8 @@ use crate::judging::Tally;
 use crate::samples;
 use crate::samples::Case;
 use crate::store_cases;
+use machine::Machine;
 use tables::Operand;
-use window::Machine;
 
 pub const INSTRUCTIONS: u8 = 32;
 

@@ -1,5 +1,5 @@
 // Whether a machine is refused by 5, or passes.
-use window::Machine;
+use machine::Machine;
 
 // How many machines with a damaged number were to be refused by 5, how many with a number at its limit were to pass, how
 // many with a number that 5 does not look at were to pass, and how many did otherwise.

@@ -7,9 +7,9 @@ use crate::judging::in_range;
 use crate::judging::looked_at;
 use crate::judging::refused;
 use crate::samples::with_count;
+use machine::Machine;
+use machine::Setup;
 use reference::Stop;
-use window::Machine;
-use window::Setup;
 
 pub const NOTHING: u8 = 0;
 

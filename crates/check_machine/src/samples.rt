@@ -1,10 +1,10 @@
 // Entries as a machine may hold them, and machines with such entries.
 use isa::Instruction;
+use machine::Machine;
 use reference::Stop;
 use tables::Entry;
 use tables::Operand;
 use tables::State;
-use window::Machine;
 
 // an entry, and whether 5 is to refuse a machine that holds it
 pub struct Case {

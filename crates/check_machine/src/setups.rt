@@ -1,9 +1,9 @@
 // Set-ups over the corners of the four numbers.
 use crate::judging;
+use machine::Machine;
 use tables::Entry;
 use tables::Operand;
 use tables::State;
-use window::Machine;
 
 // by: how many should be refused by 1 to 4, and at 0 how many should be accepted
 struct Setups {

@@ -9,8 +9,8 @@ use Rattle.tables.specs.FreeList.{takenHead, takenLink, freedHead, freedLink}
 use Rattle.tables.specs.Operand.{operandNumbers}
 use Rattle.tables.specs.Entry.{emptyEntry}
 use Rattle.tables.specs.declared.Entry.{Entry}
-use Rattle.window.specs.SetUp.{setUpOf}
-use Rattle.window.specs.Drop.{dropTo}
+use Rattle.machine.specs.SetUp.{setUpOf}
+use Rattle.machine.specs.Drop.{dropTo}
 use Rattle.timing_tables.specs.Repeated.{repeated}
 use Rattle.timing_tables.specs.Full.{entryAt, placeEntry, fullMachine}
 use Rattle.timing_tables.specs.Timing.{Chain, takeAndFree, firstChain, headAfter, wakeAll, registerAfter, headsAfter}

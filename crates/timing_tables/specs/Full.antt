@@ -9,8 +9,8 @@ use Rattle.tables.specs.Entry.{emptyEntry}
 use Rattle.tables.specs.declared.Operand.the-variants.{Waiting}
 use Rattle.tables.specs.declared.State.the-variants.{Completed}
 use Rattle.tables.specs.declared.Entry.{Entry}
-use Rattle.window.specs.Machine.{setupOf}
-use Rattle.window.specs.declared.Machine.{Machine}
+use Rattle.machine.specs.Machine.{setupOf}
+use Rattle.machine.specs.declared.Machine.{Machine}
 use Rattle.timing_tables.specs.Repeated.{repeated}
 
 -- completed, with its operands on its own name and the one before

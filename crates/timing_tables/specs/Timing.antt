@@ -6,9 +6,9 @@ use Rattle.tables.specs.FreeList.{takenHead, takenLink, freedHead, freedLink}
 use Rattle.tables.specs.Operand.{operandNumbers}
 use Rattle.tables.specs.Entry.{emptyEntry, wakeEntry}
 use Rattle.tables.specs.declared.Entry.{Entry}
-use Rattle.window.specs.SetUp.{setUpOf}
-use Rattle.window.specs.Drop.{dropTo}
-use Rattle.window.specs.declared.Machine.{Machine}
+use Rattle.machine.specs.SetUp.{setUpOf}
+use Rattle.machine.specs.Drop.{dropTo}
+use Rattle.machine.specs.declared.Machine.{Machine}
 use Rattle.timing_tables.specs.Repeated.{repeated}
 use Rattle.timing_tables.specs.Full.{fullMachine}
 

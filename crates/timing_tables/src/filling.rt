@@ -4,13 +4,13 @@ ghost use Prim.Native.Nat.{_<_};
 ghost use Rattle.tables.specs.Operand.{operandNumbers};
 ghost use Rattle.timing_tables.specs.Full as Full;
 use isa::Instruction;
+use machine::Machine;
+use machine::Setup;
 use reference::Stop;
 use tables::Entry;
 use tables::Operand;
 use tables::State;
 use tables::entries;
-use window::Machine;
-use window::Setup;
 
 // the register of an operand, or 0
 pub fn register_of(operand: Operand) -> u8

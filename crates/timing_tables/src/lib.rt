@@ -3,9 +3,9 @@ mod filling;
 
 ghost use mathlib.Core.Path.{_≡_};
 ghost use Rattle.timing_tables.specs.Timing as Timing;
+use machine::Machine;
 use tables::entries;
 use tables::free_list;
-use window::Machine;
 
 // The head of the register chain after so many rounds: each takes a register and frees the one taken before it.
 #[no_mangle]

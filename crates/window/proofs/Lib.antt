@@ -1,15 +1,2 @@
--- Laws of the machine.
-pub mod TabulateLaws
-pub mod SetUpLaws
-pub mod FreshLaws
-pub mod RangeLaws
-pub mod FreshInRange
-pub mod DropLaws
-pub mod ReportLaws
-pub mod RefusalLaws
-pub mod DecodeLaws
-pub mod OperationLaws
-pub mod IssueLaws
-pub mod CompleteLaws
-pub mod CommitLaws
+-- Laws of drain.
 pub mod DrainLaws

@@ -6,12 +6,12 @@ use lib.Dec.{eqb}
 use Rattle.isa.specs.Reads.{choose}
 use Rattle.tables.specs.declared.State.{State}
 use Rattle.tables.specs.declared.State.the-variants.{Waits, Issued, Completed}
-use Rattle.window.specs.Call.{entryAt, halted, lentRefusal}
-use Rattle.window.specs.Issue.{issueOf}
-use Rattle.window.specs.Complete.{completeOf}
-use Rattle.window.specs.Commit.{Commit, commitOf}
-use Rattle.window.specs.declared.Machine.{Machine}
-use Rattle.window.specs.declared.Answer.{Answer}
+use Rattle.machine.specs.Call.{entryAt, halted, lentRefusal}
+use Rattle.issuing.specs.Issue.{issueOf}
+use Rattle.completing.specs.Complete.{completeOf}
+use Rattle.committing.specs.Commit.{Commit, commitOf}
+use Rattle.machine.specs.declared.Machine.{Machine}
+use Rattle.machine.specs.declared.Answer.{Answer}
 
 -- the call that position 0 needs next, by its state
 abbrev pub neededBy : State → List ℕ → List ℕ → Machine → Commit

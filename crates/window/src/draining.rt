@@ -1,25 +1,29 @@
+// Drain: the calls that commit position 0, until none is left.
 ghost use mathlib.Core.Path.{_≡_};
 ghost use Prim.Native.Nat.{_≤_, _*_};
 ghost use Rattle.window.specs.Drain as Drain;
+ghost use Rattle.window.specs.Handed as Handed;
 use crate::Answer;
+use crate::Core;
 use crate::Drained;
-use crate::Machine;
 use tables::State;
 
-impl Machine {
+impl Core {
     // no entry is left, or the machine halted
     fn is_idle(self) -> bool
-        ensures { λ r. ⌜ r ≡ Drain.idle self ⌝ }
+        ensures { λ r. ⌜ r ≡ Drain.idle (self .machine) ⌝ }
     {
-        let halt = self.halt;
-        (self.count == 0) | (halt.cause != 0)
+        let machine = self.machine;
+        let halt = machine.halt;
+        (machine.count == 0) | (halt.cause != 0)
     }
 
     // the call that position 0 needs next
     fn needed(self, program: &[u8], data: &mut [u8]) -> Answer
-        ensures { λ r. ⌜ Drain.neededOf (now (program .entry)) (now («data» .entry)) self ≡ record { answer = r; memory = now («data» .exit) } ⌝ }
+        ensures { λ r. ⌜ Drain.neededOf (now (program .entry)) (now («data» .entry)) (self .machine) ≡ record { answer = Handed.answer r; memory = now («data» .exit) } ⌝ }
     {
-        let e = self.entries[0];
+        let machine = self.machine;
+        let e = machine.entries[0];
         let state = e.state;
         match state {
             State::Waits => self.issue(program, data, 0),
@@ -30,23 +34,23 @@ impl Machine {
 
     // at most so many calls
     fn drain_by(mut self, program: &[u8], data: &mut [u8], budget: u8) -> Drained
-        ensures { λ r. ⌜ Drain.drainFrom budget (now (program .entry)) (now («data» .entry)) self 0 ≡ record { machine = r .machine; memory = now («data» .exit); calls = r .calls; number = r .number } ⌝ }
+        ensures { λ r. ⌜ Drain.drainFrom budget (now (program .entry)) (now («data» .entry)) (self .machine) 0 ≡ Handed.drained r (now («data» .exit)) ⌝ }
     {
         let mut calls: u8 = 0;
         while calls < budget {
             if self.is_idle() {
                 return Drained {
-                    machine: self,
+                    core: self,
                     calls,
                     number: 0,
                 };
             }
             let answer = self.needed(program, data);
-            let next = answer.machine;
+            let next = answer.core;
             self = next;
             if answer.number != 0 {
                 return Drained {
-                    machine: self,
+                    core: self,
                     calls,
                     number: answer.number,
                 };
@@ -54,7 +58,7 @@ impl Machine {
             calls += 1;
         }
         Drained {
-            machine: self,
+            core: self,
             calls,
             number: 0,
         }
@@ -62,17 +66,18 @@ impl Machine {
 
     // Commits the entries one by one, until none is left or the machine halts; ends at a refused call with its number.
     pub fn drain(self, program: &[u8], data: &mut [u8]) -> Drained
-        ensures { λ r. ⌜ Drain.drainOf (now (program .entry)) (now («data» .entry)) self ≡ record { machine = r .machine; memory = now («data» .exit); calls = r .calls; number = r .number } ⌝ }
+        ensures { λ r. ⌜ Drain.drainOf (now (program .entry)) (now («data» .entry)) (self .machine) ≡ Handed.drained r (now («data» .exit)) ⌝ }
     {
-        let number = self.lent_refusal(program, data);
+        let machine = self.machine;
+        let number = machine.lent_refusal(program, data);
         if number != 0 {
             return Drained {
-                machine: self,
+                core: self,
                 calls: 0,
                 number,
             };
         }
-        let budget = 3 * self.count;
+        let budget = 3 * machine.count;
         self.drain_by(program, data, budget)
     }
 }

@@ -1,60 +1,23 @@
-// The Window level: a renaming core driven call by call.
-pub mod committing;
-pub mod completing;
-pub mod decoding;
+// The Window level: a renaming core driven call by call. The work of each call is in a crate of its own.
+pub mod calling;
 pub mod draining;
-pub mod dropping;
-pub mod issuing;
-pub mod lending;
-pub mod range;
-pub mod reporting;
-pub mod setting;
 
-use reference::Stop;
-use tables::Entry;
+use machine::Machine;
 
-// Window W, registers N, and the lengths of program and data.
-pub struct Setup {
-    pub window: u8,
-    pub registers: u8,
-    pub program: u16,
-    pub bytes: u16,
+// The core: a machine, with the calls as its methods.
+pub struct Core {
+    pub machine: Machine,
 }
 
-// The machine: under 4 KB, by value. Every table is a field of its own; index 0 of a table is nobody's.
-pub struct Machine {
-    pub setup: Setup,
-    pub count: u8,
-    pub entries: [Entry; 64],
-    pub mapname: [u8; 32],
-    pub mapregister: [u8; 32],
-    pub mapvalid: [bool; 32],
-    pub physical: [u8; 96],
-    pub values: [u32; 96],
-    pub registerhead: u8,
-    pub registerlink: [u8; 96],
-    pub namehead: u8,
-    pub namelink: [u8; 96],
-    pub fetch: u32,
-    pub next: u32,
-    pub halt: Stop,
-}
-
-// The machine after a call, with 0 or a refusal.
+// The core after a call, with 0 or a refusal.
 pub struct Answer {
-    pub machine: Machine,
+    pub core: Core,
     pub number: u8,
 }
 
-// The committed registers, with 0 or refusal 5.
-pub struct Report {
-    pub registers: [u32; 32],
-    pub number: u8,
-}
-
-// The machine after a drain, how many calls were accepted, and 0 or the refusal that ended it.
+// The core after a drain, how many calls were accepted, and 0 or the refusal that ended it.
 pub struct Drained {
-    pub machine: Machine,
+    pub core: Core,
     pub calls: u8,
     pub number: u8,
 }

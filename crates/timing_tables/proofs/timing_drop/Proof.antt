@@ -3,8 +3,8 @@ use mathlib.Core.Path.{_≡_, sym, ap, _∙_}
 use native.Mathlib.Nat.{zero-mul}
 use native.Mathlib.Omega.{arith}
 use borrow.Author.Needs.{needs}
-use Rattle.window.specs.Drop.{dropTo}
-use Rattle.window.specs.declared.Machine.{Machine}
+use Rattle.machine.specs.Drop.{dropTo}
+use Rattle.machine.specs.declared.Machine.{Machine}
 use Rattle.timing_tables.specs.Full.{fullMachine}
 use Rattle.timing_tables.proofs.Results.{full-count, next-sum, heads-after}
 use Rattle.timing_tables.proofs.timing_drop.Statement.{statement}

@@ -4,8 +4,8 @@ use native.Mathlib.Omega.{arith}
 use borrow.Author.Needs.{needs}
 use lib.ListN.{length}
 use Rattle.tables.proofs.TableLaws.{store-length}
-use Rattle.window.specs.SetUp.{setUpOf}
-use Rattle.window.specs.declared.Answer.{Answer}
+use Rattle.machine.specs.SetUp.{setUpOf}
+use Rattle.machine.specs.declared.Answer.{Answer}
 use Rattle.timing_tables.specs.Repeated.{repeated}
 use Rattle.timing_tables.specs.Timing.{Chain, takeAndFree, firstChain}
 use Rattle.timing_tables.proofs.Rounds.{no-round, next-round}

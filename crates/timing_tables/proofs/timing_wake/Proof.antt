@@ -4,7 +4,7 @@ use native.Mathlib.Omega.{arith}
 use borrow.Author.Needs.{needs}
 use lib.ListN.{length, set, length-set}
 use Rattle.tables.specs.Entry.{emptyEntry, wakeEntry}
-use Rattle.window.specs.declared.Machine.{Machine}
+use Rattle.machine.specs.declared.Machine.{Machine}
 use Rattle.timing_tables.specs.Repeated.{repeated}
 use Rattle.timing_tables.specs.Full.{fullMachine}
 use Rattle.timing_tables.specs.Timing.{wakeAll}

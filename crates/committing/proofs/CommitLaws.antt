@@ -1,0 +1,194 @@
+-- Commit, put together from its parts.
+use Prim.Native.Nat.{ℕ, zero, suc, _+_, _-_, _≤_, _<_}
+use mathlib.Core.Path.{_≡_, refl, sym, ap, _∙_}
+use mathlib.Core.Bool.{Bool, true, false, not}
+use mathlib.Core.List.{List, [], _∷_, _++_, map}
+use native.Mathlib.Omega.{arith}
+use native.Mathlib.Numerals.{add-one}
+use borrow.Author.Tests.{eq-eqb, ne-eqb, leb-false}
+use lib.Dec.{eqb}
+use lib.ListN.{length, getD, set, take, drop, length-map}
+use Rattle.isa.specs.Reads.{choose}
+use Rattle.reference.specs.Memory.{stored}
+use Rattle.reference.specs.Step.{when, first}
+use Rattle.reference.specs.declared.Stop.{Stop}
+use Rattle.tables.specs.Table.{lookUp, storeUnder}
+use Rattle.tables.specs.FreeList.{freedHead, freedLink}
+use Rattle.tables.specs.Entry.{emptyEntry, isCompleted}
+use Rattle.tables.specs.declared.Entry.{Entry}
+use Rattle.machine.specs.declared.Machine.{Machine}
+use Rattle.machine.specs.declared.Answer.{Answer}
+use Rattle.machine.specs.Call.{entryAt, withEntries, halted, noEntry, lentRefusal, inTurn}
+use Rattle.machine.specs.Drop.{dropTo}
+use Rattle.committing.specs.Commit.{commitRefusal, haltedBy, moveDown, retired, stoppedWith, committed, writtenBy, Commit, commitBy, commitWithin, commitOf}
+use Rattle.machine.proofs.RefusalLaws.{passed, own-next}
+
+-- the length of an array of structs: what is known of it stands at what its elements are made of
+pub length-mapped : {A B : Type 0} (f : A → B) (elements : List A) (n : ℕ) → length (map f elements) ≡ n → length elements ≡ n
+length-mapped f elements n e = sym (length-map elements f) ∙ e
+
+-- the first n elements are those that stood one place up
+unfoldable pub shifted : {A : Type 0} → ℕ → List A → List A
+shifted zero elements = elements
+shifted (suc n) [] = []
+shifted (suc n) (x ∷ []) = x ∷ []
+shifted (suc n) (x ∷ y ∷ elements) = y ∷ shifted n (y ∷ elements)
+
+pub shifted-none : {A : Type 0} (elements : List A) → elements ≡ shifted 0 elements
+unfolding shifted
+shifted-none elements = refl
+
+shifted-more : {A : Type 0} (default : A) (n : ℕ) (elements : List A) → suc n < length elements
+    → set (shifted n elements) n (getD (shifted n elements) (suc n) default) ≡ shifted (suc n) elements
+unfolding shifted
+shifted-more default zero [] h = refl
+shifted-more default zero (x ∷ []) h = absurd (omega arith)
+shifted-more default zero (x ∷ y ∷ elements) h = refl
+shifted-more default (suc n) [] h = refl
+shifted-more default (suc n) (x ∷ []) h = absurd (omega arith)
+shifted-more default (suc n) (x ∷ y ∷ elements) h = ap (λ (rest : List _). y ∷ rest) (shifted-more default n (y ∷ elements) (omega arith))
+
+shifted-all : {A : Type 0} (z : A) (n : ℕ) (elements : List A) → n < length elements → set (shifted n elements) n z ≡ drop 1 (take (suc n) elements) ++ z ∷ drop (suc n) elements
+unfolding shifted
+shifted-all z n [] h = absurd (omega arith)
+shifted-all z zero (x ∷ []) h = refl
+shifted-all z zero (x ∷ y ∷ elements) h = refl
+shifted-all z (suc n) (x ∷ []) h = absurd (omega arith)
+shifted-all z (suc n) (x ∷ y ∷ elements) h = ap (λ (rest : List _). y ∷ rest) (shifted-all z n (y ∷ elements) (omega arith))
+
+-- one turn of the loop, on the machine
+pub shift-turn : (m k : Machine) (n : ℕ) → n + 1 < length (m .entries) → k ≡ withEntries (shifted n (m .entries)) m
+    → withEntries (set (k .entries) n (getD (k .entries) (n + 1) emptyEntry)) k ≡ withEntries (shifted (n + 1) (m .entries)) m
+shift-turn m k n l h =
+    ap (λ (x : Machine). withEntries (set (x .entries) n (getD (x .entries) (n + 1) emptyEntry)) x) h
+    ∙ ap (λ (entries : List Entry). withEntries entries m)
+    (ap (λ (j : ℕ). set (shifted n (m .entries)) n (getD (shifted n (m .entries)) j emptyEntry)) (add-one n) ∙ shifted-more emptyEntry n (m .entries) (omega arith)
+    ∙ ap (λ (j : ℕ). shifted j (m .entries)) (sym (add-one n)))
+
+-- and its end
+pub shift-done : (m k : Machine) (last : ℕ) (empty : Entry) → 0 < m .count → last ≡ m .count - 1 → m .count ≤ length (m .entries) → k ≡ withEntries (shifted last (m .entries)) m → empty ≡ emptyEntry
+    → withEntries (set (k .entries) last empty) k ≡ withEntries (moveDown (m .count) (m .entries)) m
+unfolding moveDown
+shift-done m k last empty some e l h z =
+    let n : suc last ≡ m .count = omega arith in
+    ap (λ (x : Entry). withEntries (set (k .entries) last x) k) z
+    ∙ ap (λ (x : Machine). withEntries (set (x .entries) last emptyEntry) x) h
+    ∙ ap (λ (entries : List Entry). withEntries entries m)
+    (shifted-all emptyEntry last (m .entries) (omega arith) ∙ ap (λ (j : ℕ). drop 1 (take j (m .entries)) ++ emptyEntry ∷ drop j (m .entries)) n)
+
+-- the refusals, by the tests
+module _ (m : Machine) where
+  pub refused-halted : halted m ≡ true → 10 ≡ commitRefusal m
+  unfolding commitRefusal first
+  refused-halted h = rw h
+
+  pub refused-place : halted m ≡ false → noEntry m 0 ≡ true → 12 ≡ commitRefusal m
+  unfolding commitRefusal first
+  refused-place h n = rw (h, n)
+
+  pub refused-state : halted m ≡ false → noEntry m 0 ≡ false → isCompleted (entryAt m 0 .state) ≡ false → 13 ≡ commitRefusal m
+  unfolding commitRefusal first
+  refused-state h n s = rw (h, n, s)
+
+  pub not-refused : halted m ≡ false → noEntry m 0 ≡ false → isCompleted (entryAt m 0 .state) ≡ true → 0 ≡ commitRefusal m
+  unfolding commitRefusal first
+  not-refused h n s = rw (h, n, s)
+
+-- a commit that is not refused has an entry
+pub has-entry : (m : Machine) → commitRefusal m ≡ 0 → 0 < m .count
+unfolding commitRefusal
+has-entry m z =
+    let rest = when (not (isCompleted (entryAt m 0 .state))) 13 ∷ [] in
+    leb-false (m .count) 0 (passed (noEntry m 0) 12 rest refl (passed (halted m) 10 (when (noEntry m 0) 12 ∷ rest) refl z .1) .0)
+
+-- the oldest entry leaves
+pub retired-is : (m k : Machine) (register registerhead namehead : ℕ) (registerlink physical namelink : List ℕ)
+    → let e : Entry = entryAt m 0 in
+    register ≡ lookUp (m .physical) (e .previous)
+    → registerhead ≡ freedHead (m .registerhead) register
+    → registerlink ≡ freedLink (m .registerlink) (m .registerhead) register
+    → physical ≡ storeUnder (m .physical) (e .previous) 0
+    → namehead ≡ freedHead (m .namehead) (e .previous)
+    → namelink ≡ freedLink (m .namelink) (m .namehead) (e .previous)
+    → k
+    ≡ record {
+      setup = m .setup;
+      count = m .count;
+      entries = moveDown (m .count) (m .entries);
+      mapname = m .mapname;
+      mapregister = m .mapregister;
+      mapvalid = m .mapvalid;
+      physical = physical;
+      values = m .values;
+      registerhead = registerhead;
+      registerlink = registerlink;
+      namehead = namehead;
+      namelink = namelink;
+      fetch = m .fetch;
+      next = e .predicted;
+      halt = m .halt;
+    }
+    → _≡_ {A = Machine}
+    (record {
+      setup = k .setup;
+      count = k .count - 1;
+      entries = k .entries;
+      mapname = k .mapname;
+      mapregister = k .mapregister;
+      mapvalid = k .mapvalid;
+      physical = k .physical;
+      values = k .values;
+      registerhead = k .registerhead;
+      registerlink = k .registerlink;
+      namehead = k .namehead;
+      namelink = k .namelink;
+      fetch = k .fetch;
+      next = k .next;
+      halt = k .halt;
+    })
+    (retired m)
+unfolding retired
+retired-is m k register registerhead namehead registerlink physical namelink a b c d f g h = rw (h, b, c, a, d, f, g)
+
+-- the machine halts
+pub halted-is : (why : Stop) (m k : Machine) → k ≡ m
+    → _≡_ {A = Machine}
+    (record {
+      setup = k .setup;
+      count = k .count;
+      entries = k .entries;
+      mapname = k .mapname;
+      mapregister = k .mapregister;
+      mapvalid = k .mapvalid;
+      physical = k .physical;
+      values = k .values;
+      registerhead = k .registerhead;
+      registerlink = k .registerlink;
+      namehead = k .namehead;
+      namelink = k .namelink;
+      fetch = k .fetch;
+      next = k .next;
+      halt = why;
+    })
+    (haltedBy why m)
+unfolding haltedBy
+halted-is why m k h = rw h
+
+-- what commit answers, in each of the ways
+module _ (memory : List ℕ) (m : Machine) (refusal : ℕ) where
+  pub commit-refused : (number : ℕ) → number ≡ refusal → (number ≡ 0 → ⊥) → commitBy refusal memory m ≡ record { answer = record { machine = m; number = number }; memory = memory }
+  commit-refused number e h = rw (e, ne-eqb refusal 0 (λ z. h (e ∙ z)))
+
+  module _ (z : refusal ≡ 0) where
+    pub commit-halts : (k : Machine) → (entryAt m 0 .stop .cause ≡ 0 → ⊥) → k ≡ stoppedWith (entryAt m 0 .stop) m
+        → commitBy refusal memory m ≡ record { answer = record { machine = k; number = 0 }; memory = memory }
+    commit-halts k h e = rw (eq-eqb refusal 0 z, ne-eqb (entryAt m 0 .stop .cause) 0 h, e)
+
+    pub commit-retires : (k : Machine) (written : List ℕ) → entryAt m 0 .stop .cause ≡ 0 → k ≡ retired m
+        → written ≡ stored (entryAt m 0 .instruction) (entryAt m 0 .first) (entryAt m 0 .second) memory
+        → commitBy refusal memory m ≡ record { answer = record { machine = k; number = 0 }; memory = written }
+    commit-retires k written h e f = rw (eq-eqb refusal 0 z, eq-eqb (entryAt m 0 .stop .cause) 0 h, e, f)
+
+pub commit-lent : (program memory : List ℕ) (m : Machine) → lentRefusal m program memory ≡ 0 → commitOf program memory m ≡ commitWithin memory m
+unfolding commitWithin commitOf
+commit-lent program memory m e = ap (λ (n : ℕ). commitBy n memory m) (sym (own-next (lentRefusal m program memory) (commitRefusal m) e))

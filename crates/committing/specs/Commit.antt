@@ -1,0 +1,97 @@
+-- Commit.
+use Prim.Native.Nat.{ℕ, _-_}
+use mathlib.Core.Bool.{Bool, not}
+use mathlib.Core.List.{List, [], _∷_, _++_}
+use lib.Dec.{eqb}
+use lib.ListN.{take, drop}
+use Rattle.isa.specs.Reads.{choose}
+use Rattle.reference.specs.Memory.{stored}
+use Rattle.reference.specs.Step.{when, first}
+use Rattle.reference.specs.declared.Stop.{Stop}
+use Rattle.tables.specs.Table.{lookUp, storeUnder}
+use Rattle.tables.specs.FreeList.{freedHead, freedLink}
+use Rattle.tables.specs.Entry.{emptyEntry, isCompleted}
+use Rattle.tables.specs.declared.Entry.{Entry}
+use Rattle.machine.specs.Call.{entryAt, halted, noEntry, lentRefusal, inTurn, answered}
+use Rattle.machine.specs.Drop.{dropTo}
+use Rattle.machine.specs.declared.Machine.{Machine}
+use Rattle.machine.specs.declared.Answer.{Answer}
+
+-- 10 halted; 12 empty window; 13 entry not completed
+unfoldable pub commitRefusal : Machine → ℕ
+commitRefusal m = first (when (halted m) 10 ∷ when (noEntry m 0) 12 ∷ when (not (isCompleted (entryAt m 0 .state))) 13 ∷ [])
+
+-- the machine halts
+unfoldable pub haltedBy : Stop → Machine → Machine
+haltedBy why m =
+    record {
+      setup = m .setup;
+      count = m .count;
+      entries = m .entries;
+      mapname = m .mapname;
+      mapregister = m .mapregister;
+      mapvalid = m .mapvalid;
+      physical = m .physical;
+      values = m .values;
+      registerhead = m .registerhead;
+      registerlink = m .registerlink;
+      namehead = m .namehead;
+      namelink = m .namelink;
+      fetch = m .fetch;
+      next = m .next;
+      halt = why;
+    }
+
+-- all entries move one place down, and the last place is emptied; places past the count stay
+unfoldable pub moveDown : ℕ → List Entry → List Entry
+moveDown count entries = drop 1 (take count entries) ++ emptyEntry ∷ drop count entries
+
+-- "the previous name's register, then that name, are freed, and next address becomes its predicted next"
+unfoldable pub retired : Machine → Machine
+retired m =
+    let e : Entry = entryAt m 0 in
+    record {
+      setup = m .setup;
+      count = m .count - 1;
+      entries = moveDown (m .count) (m .entries);
+      mapname = m .mapname;
+      mapregister = m .mapregister;
+      mapvalid = m .mapvalid;
+      physical = storeUnder (m .physical) (e .previous) 0;
+      values = m .values;
+      registerhead = freedHead (m .registerhead) (lookUp (m .physical) (e .previous));
+      registerlink = freedLink (m .registerlink) (m .registerhead) (lookUp (m .physical) (e .previous));
+      namehead = freedHead (m .namehead) (e .previous);
+      namelink = freedLink (m .namelink) (m .namehead) (e .previous);
+      fetch = m .fetch;
+      next = e .predicted;
+      halt = m .halt;
+    }
+
+-- "With a cause: the rest is dropped, then this entry; the machine halts with the cause, fetch and next address staying."
+abbrev pub stoppedWith : Stop → Machine → Machine
+stoppedWith why m = haltedBy why (dropTo 0 m)
+
+abbrev pub committed : Machine → Machine
+committed m = choose (eqb (entryAt m 0 .stop .cause) 0) (retired m) (stoppedWith (entryAt m 0 .stop) m)
+
+-- "Otherwise a store writes data"
+abbrev pub writtenBy : Entry → List ℕ → List ℕ
+writtenBy e memory = choose (eqb (e .stop .cause) 0) (stored (e .instruction) (e .first) (e .second) memory) memory
+
+-- the machine with its number, and the data
+pub record Commit : Type 0 where
+  pub answer : Answer
+  pub memory : List ℕ
+
+abbrev pub commitBy : ℕ → List ℕ → Machine → Commit
+commitBy refusal memory m =
+    choose (eqb refusal 0) (record { answer = record { machine = committed m; number = 0 }; memory = writtenBy (entryAt m 0) memory })
+    (record { answer = record { machine = m; number = refusal }; memory = memory })
+
+-- commit, where 5 and 6 do not apply
+unfoldable pub commitWithin : List ℕ → Machine → Commit
+commitWithin memory m = commitBy (commitRefusal m) memory m
+
+unfoldable pub commitOf : List ℕ → List ℕ → Machine → Commit
+commitOf program memory m = commitBy (inTurn (lentRefusal m program memory) (commitRefusal m)) memory m

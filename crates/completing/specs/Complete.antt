@@ -1,0 +1,157 @@
+-- Complete.
+use Prim.Native.Nat.{ℕ, zero, suc, _+_, _-_}
+use mathlib.Core.Bool.{Bool, true, false, not, _&&_}
+use mathlib.Core.List.{List, [], _∷_}
+use lib.Dec.{eqb}
+use lib.ListN.{getD, set}
+use Rattle.isa.specs.Reads.{choose}
+use Rattle.reference.specs.Execute.{executed}
+use Rattle.reference.specs.Step.{when, first}
+use Rattle.reference.specs.declared.Outcome.{Outcome}
+use Rattle.tables.specs.Table.{lookUp, storeUnder}
+use Rattle.tables.specs.FreeList.{takenHead, takenLink}
+use Rattle.tables.specs.Entry.{emptyEntry, isIssued, stoppedEntry, completedEntry, waitingEntry, predictedEntry, wakeEntry, sleepEntry, held}
+use Rattle.tables.specs.declared.Entry.{Entry}
+use Rattle.machine.specs.Call.{entryAt, place, changeFirst, halted, noEntry, lentRefusal, inTurn, answered}
+use Rattle.machine.specs.Drop.{dropTo}
+use Rattle.machine.specs.declared.Machine.{Machine}
+use Rattle.machine.specs.declared.Answer.{Answer}
+
+-- "The result … and actual next address are found from the values read."
+abbrev pub outcomeOf : Machine → Entry → Outcome
+outcomeOf m e = executed (m .setup .bytes) (e .instruction) (e .address) (e .first) (e .second)
+
+abbrev pub outcomeAt : Machine → ℕ → Outcome
+outcomeAt m position = outcomeOf m (entryAt m position)
+
+-- "the search runs from the youngest entry and ends at the first one that holds a register, if it is younger than the caller": of the n entries after the position; the position itself where none holds one
+unfoldable pub victimAmong : ℕ → List ℕ → List Entry → ℕ → ℕ
+victimAmong zero physical entries position = position
+victimAmong (suc n) physical entries position =
+    choose (eqb (held physical (getD entries (position + suc n) emptyEntry)) 0) (victimAmong n physical entries position) (position + suc n)
+
+abbrev pub victimOf : Machine → ℕ → ℕ
+victimOf m position = victimAmong (m .count - suc position) (m .physical) (m .entries) position
+
+abbrev pub noVictim : Machine → ℕ → Bool
+noVictim m position = eqb (victimOf m position) position
+
+-- "Otherwise a destination takes a free register."
+abbrev pub needsRegister : Machine → ℕ → Bool
+needsRegister m position = not (eqb (entryAt m position .destination) 0) && eqb (outcomeAt m position .stop .cause) 0
+
+-- "If none is free"
+abbrev pub noneFree : Machine → Bool
+noneFree m = eqb (m .registerhead) 0
+
+-- 10 halted; 12 no entry there; 13 entry not issued; 16 no register free and no younger entry holds one, "only for a destination without a cause"
+unfoldable pub completeRefusal : ℕ → Machine → ℕ
+completeRefusal position m =
+    first
+    (when (halted m) 10
+    ∷ when (noEntry m position) 12
+    ∷ when (not (isIssued (entryAt m position .state))) 13
+    ∷ when (needsRegister m position && noneFree m && noVictim m position) 16
+    ∷ [])
+
+-- whether the general map still shows a name under a logical register
+abbrev pub shows : Machine → ℕ → ℕ → Bool
+shows m d name = eqb (lookUp (m .mapname) d) name
+
+-- "The victim becomes waiting, its name loses the register, the general map's valid bit falls if it still shows that name, and operands on it are waiting again in entries of every state."
+unfoldable pub robbed : ℕ → Machine → Machine
+robbed victim m =
+    let e : Entry = entryAt m victim in
+    record {
+      setup = m .setup;
+      count = m .count;
+      entries = changeFirst (m .count) (sleepEntry (e .name)) (set (m .entries) victim (waitingEntry e));
+      mapname = m .mapname;
+      mapregister = choose (shows m (e .destination) (e .name)) (storeUnder (m .mapregister) (e .destination) 0) (m .mapregister);
+      mapvalid = choose (shows m (e .destination) (e .name)) (storeUnder (m .mapvalid) (e .destination) false) (m .mapvalid);
+      physical = storeUnder (m .physical) (e .name) 0;
+      values = m .values;
+      registerhead = m .registerhead;
+      registerlink = m .registerlink;
+      namehead = m .namehead;
+      namelink = m .namelink;
+      fetch = m .fetch;
+      next = m .next;
+      halt = m .halt;
+    }
+
+-- the machine and the register with which an entry goes on: the head of the pool, or the victim's
+abbrev pub registerFor : Machine → ℕ → ℕ
+registerFor m position = choose (noneFree m) (held (m .physical) (entryAt m (victimOf m position))) (m .registerhead)
+
+abbrev pub suppliedFor : Machine → ℕ → Machine
+suppliedFor m position = choose (noneFree m) (robbed (victimOf m position) m) m
+
+-- "The new register gets the result, both maps learn it (the general map only if it still shows the name), and operands on that name, in entries of every state, become ready with that register." The pool is without its head, which an empty one has not.
+unfoldable pub learned : ℕ → ℕ → ℕ → Machine → Machine
+learned position register result m =
+    let e : Entry = entryAt m position in
+    record {
+      setup = m .setup;
+      count = m .count;
+      entries = changeFirst (m .count) (wakeEntry (e .name) register) (set (m .entries) position (completedEntry result e));
+      mapname = m .mapname;
+      mapregister = choose (shows m (e .destination) (e .name)) (storeUnder (m .mapregister) (e .destination) register) (m .mapregister);
+      mapvalid = choose (shows m (e .destination) (e .name)) (storeUnder (m .mapvalid) (e .destination) true) (m .mapvalid);
+      physical = storeUnder (m .physical) (e .name) register;
+      values = storeUnder (m .values) register result;
+      registerhead = takenHead (m .registerlink) (m .registerhead);
+      registerlink = takenLink (m .registerlink) (m .registerhead);
+      namehead = m .namehead;
+      namelink = m .namelink;
+      fetch = m .fetch;
+      next = m .next;
+      halt = m .halt;
+    }
+
+-- "(0 without a destination)"
+abbrev pub registered : ℕ → ℕ → Machine → Machine
+registered position result m =
+    choose (eqb (entryAt m position .destination) 0) (place position (completedEntry 0 (entryAt m position)) m)
+    (learned position (registerFor m position) result (suppliedFor m position))
+
+-- fetch goes to an address, and an entry's predicted next becomes it
+unfoldable pub refetched : ℕ → ℕ → Machine → Machine
+refetched position next m =
+    record {
+      setup = m .setup;
+      count = m .count;
+      entries = set (m .entries) position (predictedEntry next (entryAt m position));
+      mapname = m .mapname;
+      mapregister = m .mapregister;
+      mapvalid = m .mapvalid;
+      physical = m .physical;
+      values = m .values;
+      registerhead = m .registerhead;
+      registerlink = m .registerlink;
+      namehead = m .namehead;
+      namelink = m .namelink;
+      fetch = next;
+      next = m .next;
+      halt = m .halt;
+    }
+
+-- "Last, if actual and predicted next differ, all younger entries are dropped and fetch goes to actual; predicted becomes actual."
+unfoldable pub redirected : ℕ → ℕ → Machine → Machine
+redirected position next m = choose (eqb next (entryAt m position .predicted)) m (refetched position next (dropTo (suc position) m))
+
+abbrev pub finished : ℕ → Outcome → Machine → Machine
+finished position outcome m =
+    choose (eqb (outcome .stop .cause) 0)
+    (redirected position (outcome .next) (registered position (outcome .result) m))
+    (place position (stoppedEntry (outcome .stop) (entryAt m position)) m)
+
+abbrev pub completed : ℕ → Machine → Machine
+completed position m = finished position (outcomeAt m position) m
+
+-- complete, where 5 and 6 do not apply
+unfoldable pub completeWithin : ℕ → Machine → Answer
+completeWithin position m = answered m (completeRefusal position m) (completed position m)
+
+unfoldable pub completeOf : List ℕ → List ℕ → ℕ → Machine → Answer
+completeOf program memory position m = answered m (inTurn (lentRefusal m program memory) (completeRefusal position m)) (completed position m)

@@ -1,0 +1,34 @@
+use mathlib.Core.Path.{_≡_, sym, ap, _∙_}
+use native.Mathlib.Omega.{arith}
+use native.Mathlib.Numerals.{add-one}
+use Rattle.machine.specs.declared.Machine.{Machine}
+use Rattle.decoding.proofs.DecodeLaws.{entered}
+use borrow.Author.Needs.{needs}
+use Rattle.decoding.proofs.enter.Statement.{statement}
+use Rattle.decoding.proofs.enter.Tie as tie
+
+renamed-requires : tie.Need-renamed-requires
+renamed-requires c κs = search needs
+
+cast-at : tie.Need-cast-at
+cast-at c = search needs
+
+mul-e : tie.Need-mul-e
+mul-e c = search needs
+
+element-set-from-e : tie.Need-element-set-from-e
+element-set-from-e c =
+    omega (arith, ap (λ (m : Machine). m .count) (c .renamed .ensures), (c .before) .pre)
+
+add-entered : tie.Need-add-entered
+add-entered c =
+    omega (arith, ap (λ (m : Machine). m .count) (c .renamed .ensures), (c .before) .pre)
+
+returns : tie.Need-returns
+returns c =
+    let a = (c .before) .args in
+    rw add-one (entered (a .machine) (c .renamed .result) (a .e) (c .renamed .ensures))
+
+pub enter-spec : {M : Type 1} → statement M
+enter-spec =
+    tie.close (tie.spec renamed-requires cast-at mul-e element-set-from-e add-entered returns)

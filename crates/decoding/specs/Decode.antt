@@ -1,0 +1,139 @@
+-- Decode.
+use Prim.Native.Nat.{ℕ, suc}
+use mathlib.Core.Bool.{Bool, true, false, not}
+use mathlib.Core.List.{List, [], _∷_}
+use lib.Dec.{leb, eqb}
+use lib.ListN.{set}
+use Rattle.isa.specs.Reads.{choose, none}
+use Rattle.isa.specs.declared.Instruction.{Instruction}
+use Rattle.reference.specs.Execute.{stop, onward}
+use Rattle.reference.specs.Fetch.{FetchNumbers, fetchAt}
+use Rattle.reference.specs.Roles.{causeAtOnce, predictedNext}
+use Rattle.reference.specs.Step.{when, first, firstSource, secondSource, destination}
+use Rattle.tables.specs.Table.{lookUp, storeUnder, lookValid}
+use Rattle.tables.specs.FreeList.{takenHead, takenLink}
+use Rattle.tables.specs.Operand.{shownOperand}
+use Rattle.tables.specs.declared.Operand.{Operand}
+use Rattle.tables.specs.declared.Operand.the-variants.{Zero}
+use Rattle.tables.specs.declared.State.the-variants.{Waits, Completed}
+use Rattle.tables.specs.declared.Entry.{Entry}
+use Rattle.machine.specs.Call.{halted, lentRefusal, inTurn, answered}
+use Rattle.machine.specs.declared.Machine.{Machine}
+use Rattle.machine.specs.declared.Answer.{Answer}
+
+-- 10 halted; 11 window full
+unfoldable pub decodeRefusal : Machine → ℕ
+decodeRefusal m = first (when (halted m) 10 ∷ when (leb (m .setup .window) (m .count)) 11 ∷ [])
+
+-- "where that reading gives no instruction, or gives ECALL or EBREAK, the entry enters completed with cause 4, 1, 2 or 3": the cause, 0 for all others
+abbrev pub enteringCause : FetchNumbers → ℕ
+enteringCause f = choose (f .found) (causeAtOnce (f .fields)) (f .cause)
+
+-- "Where decode found no instruction, the entry keeps operation 0 with zero fields."
+abbrev pub endedEntry : ℕ → Instruction → ℕ → Entry
+endedEntry address i cause =
+    record {
+      instruction = i;
+      address = address;
+      predicted = onward address;
+      first = 0;
+      second = 0;
+      result = 0;
+      left = Zero;
+      right = Zero;
+      destination = 0;
+      name = 0;
+      previous = 0;
+      state = Completed;
+      stop = stop cause;
+    }
+
+-- "operands come from the general map (ready if valid)"
+abbrev pub operandOn : Machine → ℕ → Operand
+operandOn m r = shownOperand r (lookUp (m .mapname) r) (lookUp (m .mapregister) r) (lookValid (m .mapvalid) r)
+
+-- "then the destination takes a name, the old name is kept, …; the entry waits"
+abbrev pub nameFor : Machine → ℕ → ℕ
+nameFor m d = choose (eqb d 0) 0 (m .namehead)
+
+abbrev pub waitingFor : Instruction → ℕ → ℕ → Operand → Operand → ℕ → ℕ → Entry
+waitingFor i address predicted left right name previous =
+    record {
+      instruction = i;
+      address = address;
+      predicted = predicted;
+      first = 0;
+      second = 0;
+      result = 0;
+      left = left;
+      right = right;
+      destination = destination i;
+      name = name;
+      previous = previous;
+      state = Waits;
+      stop = stop 0;
+    }
+
+abbrev pub startedEntry : Machine → Instruction → ℕ → Entry
+startedEntry m i guess =
+    waitingFor i (m .fetch) (predictedNext i (m .fetch) guess) (operandOn m (firstSource i)) (operandOn m (secondSource i)) (nameFor m (destination i))
+    (lookUp (m .mapname) (destination i))
+
+-- the entry that decode enters
+abbrev pub entryFor : Machine → FetchNumbers → ℕ → Entry
+entryFor m f guess = choose (eqb (enteringCause f) 0) (startedEntry m (f .fields) guess) (endedEntry (m .fetch) (f .fields) (enteringCause f))
+
+-- the general map shows a name under its destination, "valid is cleared"; the pool of names is without its head where there is a destination
+abbrev pub renamed : ℕ → ℕ → Machine → Machine
+renamed d name m =
+    record {
+      setup = m .setup;
+      count = m .count;
+      entries = m .entries;
+      mapname = storeUnder (m .mapname) d name;
+      mapregister = storeUnder (m .mapregister) d 0;
+      mapvalid = storeUnder (m .mapvalid) d false;
+      physical = m .physical;
+      values = m .values;
+      registerhead = m .registerhead;
+      registerlink = m .registerlink;
+      namehead = choose (eqb d 0) (m .namehead) (takenHead (m .namelink) (m .namehead));
+      namelink = takenLink (m .namelink) name;
+      fetch = m .fetch;
+      next = m .next;
+      halt = m .halt;
+    }
+
+-- an entry enters; "Fetch goes there"
+abbrev pub appended : Entry → Machine → Machine
+appended e m =
+    record {
+      setup = m .setup;
+      count = suc (m .count);
+      entries = set (m .entries) (m .count) e;
+      mapname = m .mapname;
+      mapregister = m .mapregister;
+      mapvalid = m .mapvalid;
+      physical = m .physical;
+      values = m .values;
+      registerhead = m .registerhead;
+      registerlink = m .registerlink;
+      namehead = m .namehead;
+      namelink = m .namelink;
+      fetch = e .predicted;
+      next = m .next;
+      halt = m .halt;
+    }
+
+unfoldable pub enter : Entry → Machine → Machine
+enter e m = appended e (renamed (e .destination) (e .name) m)
+
+abbrev pub decoded : List ℕ → ℕ → Machine → Machine
+decoded program guess m = enter (entryFor m (fetchAt program (m .fetch)) guess) m
+
+-- decode, where 5 and 6 do not apply
+unfoldable pub decodeWithin : List ℕ → ℕ → Machine → Answer
+decodeWithin program guess m = answered m (decodeRefusal m) (decoded program guess m)
+
+unfoldable pub decodeOf : List ℕ → List ℕ → ℕ → Machine → Answer
+decodeOf program memory guess m = answered m (inTurn (lentRefusal m program memory) (decodeRefusal m)) (decoded program guess m)

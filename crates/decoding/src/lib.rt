@@ -1,0 +1,204 @@
+// Decode: an instruction enters the window.
+ghost use mathlib.Core.Path.{_≡_};
+ghost use mathlib.Core.List.{[], _∷_};
+ghost use mathlib.Core.Bool.{not};
+ghost use Prim.Native.Nat.{_<_, _≤_};
+ghost use lib.ListN.{length};
+ghost use lib.Dec.{leb, eqb};
+ghost use Rattle.isa.specs.Reads.{choose};
+ghost use Rattle.reference.specs.Step.{when, first};
+ghost use Rattle.reference.specs.Fetch.{fetchAt, fetchNumbers};
+ghost use Rattle.decoding.specs.Decode as Decode;
+use isa::Instruction;
+use machine::Answer;
+use machine::Machine;
+use reference::Fetching;
+use reference::Stop;
+use reference::roles;
+use tables::Entry;
+use tables::Operand;
+use tables::State;
+use tables::free_list;
+use tables::maps;
+use tables::operands;
+
+// 10 halted; 11 window full
+fn refusal(halt: Stop, window: u8, count: u8) -> u8
+    ensures { λ r. ⌜ r ≡ first (when (not (eqb (halt .cause) 0)) 10 ∷ when (leb window count) 11 ∷ []) ⌝ }
+{
+    if halt.cause != 0 {
+        return 10;
+    }
+    if window <= count {
+        return 11;
+    }
+    0
+}
+
+// an entry that enters with a cause
+fn ended(address: u32, instruction: Instruction, cause: u8) -> Entry
+    ensures { λ r. ⌜ r ≡ Decode.endedEntry address instruction cause ⌝ }
+{
+    Entry {
+        instruction,
+        address,
+        predicted: word::add(address, 4),
+        first: 0,
+        second: 0,
+        result: 0,
+        left: Operand::Zero,
+        right: Operand::Zero,
+        destination: 0,
+        name: 0,
+        previous: 0,
+        state: State::Completed,
+        stop: Stop { cause },
+    }
+}
+
+fn name_for(head: u8, destination: u8) -> u8
+    ensures { λ r. ⌜ r ≡ choose (eqb destination 0) 0 head ⌝ }
+{
+    if destination == 0 { 0 } else { head }
+}
+
+// an entry that waits
+fn waiting(
+    i: Instruction,
+    address: u32,
+    predicted: u32,
+    left: Operand,
+    right: Operand,
+    name: u8,
+    previous: u8,
+) -> Entry
+    ensures { λ r. ⌜ r ≡ Decode.waitingFor i address predicted left right name previous ⌝ }
+{
+    Entry {
+        instruction: i,
+        address,
+        predicted,
+        first: 0,
+        second: 0,
+        result: 0,
+        left,
+        right,
+        destination: reference::destination_of(i),
+        name,
+        previous,
+        state: State::Waits,
+        stop: Stop { cause: 0 },
+    }
+}
+
+// the cause with which there is no instruction, 0 where there is one
+fn cause_of(fetched: Fetching) -> u8
+    ensures { λ r. ⌜ r ≡ fetchNumbers fetched .cause ⌝ }
+{
+    match fetched {
+        Fetching::Found(_) => 0,
+        Fetching::Stopped(stop) => stop.cause,
+    }
+}
+
+// the head of the pool of names, after an entry with this destination took it
+fn head_after(destination: u8, head: u8, next: u8) -> u8
+    ensures { λ r. ⌜ r ≡ choose (eqb destination 0) head next ⌝ }
+{
+    if destination == 0 { head } else { next }
+}
+
+// an entry that waits, with what the general map shows
+fn started(machine: Machine, i: Instruction, guess: u32) -> Entry
+    requires { ⌜ i .operation < 40 ⌝ }
+    ensures { λ r. ⌜ r ≡ Decode.startedEntry machine i guess ⌝ }
+{
+    let one = reference::first_source(i);
+    let one_name = maps::mapped(&machine.mapname, one);
+    let one_register = maps::mapped(&machine.mapregister, one);
+    let one_valid = maps::is_valid(&machine.mapvalid, one);
+    let two = reference::second_source(i);
+    let two_name = maps::mapped(&machine.mapname, two);
+    let two_register = maps::mapped(&machine.mapregister, two);
+    let two_valid = maps::is_valid(&machine.mapvalid, two);
+    let destination = reference::destination_of(i);
+    let previous = maps::mapped(&machine.mapname, destination);
+    waiting(
+        i,
+        machine.fetch,
+        roles::predicted_next(i, machine.fetch, guess),
+        operands::shown(one, one_name, one_register, one_valid),
+        operands::shown(two, two_name, two_register, two_valid),
+        name_for(machine.namehead, destination),
+        previous,
+    )
+}
+
+// the entry that decode enters
+fn entry_for(machine: Machine, program: &[u8], guess: u32) -> Entry
+    ensures { λ r. ⌜ r ≡ Decode.entryFor machine (fetchAt (now (program .entry)) (machine .fetch)) guess ⌝ }
+{
+    let address = machine.fetch;
+    let fetched = reference::fetch(program, address);
+    let cause = cause_of(fetched);
+    let Fetching::Found(i) = fetched else {
+        let none = Instruction {
+            operation: 0,
+            rd: 0,
+            rs1: 0,
+            rs2: 0,
+            constant: 0,
+        };
+        return ended(address, none, cause);
+    };
+    let at_once = roles::cause_at_once(i);
+    if at_once != 0 {
+        return ended(address, i, at_once);
+    }
+    started(machine, i, guess)
+}
+
+// the destination's name is shown, not valid, and the name is taken from the pool
+fn renamed(mut machine: Machine, destination: u8, name: u8) -> Machine
+    ensures { λ r. ⌜ r ≡ Decode.renamed destination name machine ⌝ }
+{
+    maps::map_to(&mut machine.mapname, destination, name);
+    maps::map_to(&mut machine.mapregister, destination, 0);
+    maps::set_valid(&mut machine.mapvalid, destination, false);
+    let head = machine.namehead;
+    let following = maps::look_up(&machine.namelink, head);
+    machine.namehead = head_after(destination, head, following);
+    maps::store_under(&mut machine.namelink, name, 0);
+    machine
+}
+
+fn enter(machine: Machine, e: Entry) -> Machine
+    requires { ⌜ machine .count < 64 ⌝ }
+    ensures { λ r. ⌜ r ≡ Decode.enter e machine ⌝ }
+{
+    let mut entered = renamed(machine, e.destination, e.name);
+    let at = entered.count as usize;
+    entered.entries[at] = e;
+    entered.count += 1;
+    entered.fetch = e.predicted;
+    entered
+}
+
+// Decode, where 5 and 6 do not apply.
+pub fn decode_within(machine: Machine, program: &[u8], guess: u32) -> Answer
+    requires { ⌜ machine .setup .window ≤ 64 ⌝ }
+    ensures { λ r. ⌜ r ≡ Decode.decodeWithin (now (program .entry)) guess machine ⌝ }
+{
+    let halt = machine.halt;
+    let s = machine.setup;
+    let number = refusal(halt, s.window, machine.count);
+    if number != 0 {
+        return Answer { machine, number };
+    }
+    let e = entry_for(machine, program, guess);
+    let next = enter(machine, e);
+    Answer {
+        machine: next,
+        number: 0,
+    }
+}

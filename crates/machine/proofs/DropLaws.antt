@@ -1,0 +1,70 @@
+-- A drop, put together from what the tables' functions leave.
+use Prim.Native.Nat.{ℕ, suc, _-_, _≤_, _<_}
+use mathlib.Core.Path.{_≡_, refl, sym, ap, _∙_}
+use mathlib.Core.Bool.{Bool, not}
+use mathlib.Core.List.{List}
+use native.Mathlib.Omega.{arith}
+use lib.Dec.{eqb}
+use lib.ListN.{getD, set}
+use Rattle.tables.specs.Table.{lookUp, storeUnder}
+use Rattle.tables.specs.FreeList.{freedHead, freedLink}
+use Rattle.tables.specs.Entry.{emptyEntry, held}
+use Rattle.tables.specs.declared.Entry.{Entry}
+use Rattle.machine.specs.declared.Machine.{Machine}
+use Rattle.machine.specs.Drop.{dropYoungest, dropMany, dropTo}
+
+abbrev pub youngest : Machine → Entry
+youngest m = getD (m .entries) (m .count - 1) emptyEntry
+
+pub record Parts (m : Machine) (empty : Entry) (register registerhead namehead back : ℕ) (registerlink namelink physical mapname mapregister : List ℕ) (mapvalid : List Bool) : Type 0 where
+  pub isempty : empty ≡ emptyEntry
+  pub isregister : register ≡ held (m .physical) (youngest m)
+  pub isregisterhead : registerhead ≡ freedHead (m .registerhead) register
+  pub isregisterlink : registerlink ≡ freedLink (m .registerlink) (m .registerhead) register
+  pub isphysical : physical ≡ storeUnder (m .physical) (youngest m .name) 0
+  pub isnamehead : namehead ≡ freedHead (m .namehead) (youngest m .name)
+  pub isnamelink : namelink ≡ freedLink (m .namelink) (m .namehead) (youngest m .name)
+  pub isback : back ≡ lookUp physical (youngest m .previous)
+  pub ismapname : mapname ≡ storeUnder (m .mapname) (youngest m .destination) (youngest m .previous)
+  pub ismapregister : mapregister ≡ storeUnder (m .mapregister) (youngest m .destination) back
+  pub ismapvalid : mapvalid ≡ storeUnder (m .mapvalid) (youngest m .destination) (not (eqb back 0))
+
+pub dropped : (m : Machine) (empty : Entry) (register registerhead namehead back : ℕ) (registerlink namelink physical mapname mapregister : List ℕ) (mapvalid : List Bool)
+    → Parts m empty register registerhead namehead back registerlink namelink physical mapname mapregister mapvalid
+    → _≡_ {A = Machine}
+    (record {
+      setup = m .setup;
+      count = m .count - 1;
+      entries = set (m .entries) (m .count - 1) empty;
+      mapname = mapname;
+      mapregister = mapregister;
+      mapvalid = mapvalid;
+      physical = physical;
+      values = m .values;
+      registerhead = registerhead;
+      registerlink = registerlink;
+      namehead = namehead;
+      namelink = namelink;
+      fetch = m .fetch;
+      next = m .next;
+      halt = m .halt;
+    })
+    (dropYoungest m)
+unfolding dropYoungest
+dropped m empty register registerhead namehead back registerlink namelink physical mapname mapregister mapvalid p =
+    rw (p .isempty, p .isregisterhead, p .isregisterlink, p .isregister, p .ismapname, p .ismapregister, p .ismapvalid, p .isback, p .isphysical, p .isnamehead, p .isnamelink)
+
+pub drop-count : (m : Machine) → dropYoungest m .count ≡ m .count - 1
+unfolding dropYoungest
+drop-count m = refl
+
+-- dropping goes on, or is done
+pub drop-more : (kept : ℕ) (m : Machine) → kept < m .count → dropTo kept (dropYoungest m) ≡ dropTo kept m
+unfolding dropMany
+drop-more kept m h =
+    let n : m .count - kept ≡ suc (m .count - 1 - kept) = omega arith in
+    ap (λ (k : ℕ). dropMany (k - kept) (dropYoungest m)) (drop-count m) ∙ ap (λ (k : ℕ). dropMany k m) (sym n)
+
+pub drop-done : (kept : ℕ) (m : Machine) → m .count ≤ kept → dropTo kept m ≡ m
+unfolding dropMany
+drop-done kept m h = let n : m .count - kept ≡ 0 = omega arith in ap (λ (k : ℕ). dropMany k m) n

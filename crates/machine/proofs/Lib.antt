@@ -1,0 +1,10 @@
+-- Laws of the machine.
+pub mod TabulateLaws
+pub mod SetUpLaws
+pub mod FreshLaws
+pub mod RangeLaws
+pub mod FreshInRange
+pub mod DropLaws
+pub mod ReportLaws
+pub mod RefusalLaws
+pub mod OperationLaws

@@ -1,0 +1,13 @@
+use borrow.Author.Needs.{needs}
+use mir.Syntax.{w32}
+use mir.ValLaws.{toZ-ofZ}
+use Rattle.machine.proofs.RangeLaws.{zero-bits}
+use Rattle.machine.proofs.range.is_none.Statement.{statement}
+use Rattle.machine.proofs.range.is_none.Tie as tie
+
+returns : tie.Need-returns
+returns c =
+    rw (zero-bits (c .before .before .before .before .before .before .args .i .constant) (search needs))
+
+pub is-none-spec : {M : Type 1} → statement M
+is-none-spec = tie.close (tie.spec returns)

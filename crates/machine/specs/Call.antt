@@ -1,0 +1,70 @@
+-- What the calls share.
+use Prim.Native.Nat.{ℕ, zero, suc}
+use mathlib.Core.Bool.{Bool, true, false, not, _&&_}
+use mathlib.Core.List.{List, [], _∷_}
+use lib.Dec.{leb, eqb}
+use lib.ListN.{length, getD, set}
+use Rattle.isa.specs.Reads.{choose}
+use Rattle.reference.specs.Step.{when, first}
+use Rattle.tables.specs.Entry.{emptyEntry}
+use Rattle.tables.specs.declared.Entry.{Entry}
+use Rattle.machine.specs.Range.{machineInRange}
+use Rattle.machine.specs.declared.Machine.{Machine}
+use Rattle.machine.specs.declared.Answer.{Answer}
+
+abbrev pub entryAt : Machine → ℕ → Entry
+entryAt m position = getD (m .entries) position emptyEntry
+
+-- the entries change, and no table does
+abbrev pub withEntries : List Entry → Machine → Machine
+withEntries entries m =
+    record {
+      setup = m .setup;
+      count = m .count;
+      entries = entries;
+      mapname = m .mapname;
+      mapregister = m .mapregister;
+      mapvalid = m .mapvalid;
+      physical = m .physical;
+      values = m .values;
+      registerhead = m .registerhead;
+      registerlink = m .registerlink;
+      namehead = m .namehead;
+      namelink = m .namelink;
+      fetch = m .fetch;
+      next = m .next;
+      halt = m .halt;
+    }
+
+abbrev pub place : ℕ → Entry → Machine → Machine
+place position e m = withEntries (set (m .entries) position e) m
+
+-- the first n elements of a list change alike
+unfoldable pub changeFirst : {A : Type 0} → ℕ → (A → A) → List A → List A
+changeFirst zero f elements = elements
+changeFirst (suc n) f [] = []
+changeFirst (suc n) f (e ∷ elements) = f e ∷ changeFirst n f elements
+
+-- 6: "a lent length differs from set-up"
+abbrev pub lengthsDiffer : Machine → List ℕ → List ℕ → Bool
+lengthsDiffer m program memory = not (eqb (length program) (m .setup .program) && eqb (length memory) (m .setup .bytes))
+
+-- what whoever holds a machine meets: 5, then 6
+unfoldable pub lentRefusal : Machine → List ℕ → List ℕ → ℕ
+lentRefusal m program memory = first (when (not (machineInRange m)) 5 ∷ when (lengthsDiffer m program memory) 6 ∷ [])
+
+-- 10: halted
+abbrev pub halted : Machine → Bool
+halted m = not (eqb (m .halt .cause) 0)
+
+-- 12: no entry there
+abbrev pub noEntry : Machine → ℕ → Bool
+noEntry m position = leb (m .count) position
+
+-- "Each call takes the machine and hands back the next one, with 0 or a refusal": at a refusal the machine as it came
+abbrev pub answered : Machine → ℕ → Machine → Answer
+answered m refusal next = choose (eqb refusal 0) (record { machine = next; number = 0 }) (record { machine = m; number = refusal })
+
+-- "Calls check 5, 6, then 10 to 16 rising."
+abbrev pub inTurn : ℕ → ℕ → ℕ
+inTurn lent own = first (lent ∷ own ∷ [])

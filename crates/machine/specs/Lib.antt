@@ -1,0 +1,8 @@
+-- The definitions that the contracts cite, in reading order.
+pub mod Machine
+pub mod SetUp
+pub mod Range
+pub mod Drop
+pub mod Report
+pub mod Call
+pub mod Statement

@@ -1,0 +1,45 @@
+-- The machine.
+use Prim.Native.Nat.{ℕ, zero, suc, _+_}
+use mathlib.Core.Bool.{Bool, true, false}
+use mathlib.Core.List.{List, [], _∷_, _++_}
+use lib.ListN.{replicate}
+use Rattle.reference.specs.Execute.{stop}
+use Rattle.tables.specs.Entry.{emptyEntry}
+use Rattle.machine.specs.declared.Setup.{Setup}
+use Rattle.machine.specs.declared.Machine.{Machine}
+
+-- "Virtual names 1 to 31 + W."
+abbrev pub namesOf : ℕ → ℕ
+namesOf window = 31 + window
+
+-- f at 0, 1, …, n − 1
+unfoldable pub tabulateFrom : ℕ → ℕ → (ℕ → ℕ) → List ℕ
+tabulateFrom k zero f = []
+tabulateFrom k (suc n) f = f k ∷ tabulateFrom (suc k) n f
+
+abbrev pub tabulate : ℕ → (ℕ → ℕ) → List ℕ
+tabulate n f = tabulateFrom 0 n f
+
+abbrev pub setupOf : ℕ → ℕ → ℕ → ℕ → Setup
+setupOf window registers program bytes = record { window = window; registers = registers; program = program; bytes = bytes }
+
+-- "a machine of zeros"
+abbrev pub zeroMachine : Machine
+zeroMachine =
+    record {
+      setup = setupOf 0 0 0 0;
+      count = 0;
+      entries = replicate 64 emptyEntry;
+      mapname = replicate 32 0;
+      mapregister = replicate 32 0;
+      mapvalid = replicate 32 false;
+      physical = replicate 96 0;
+      values = replicate 96 0;
+      registerhead = 0;
+      registerlink = replicate 96 0;
+      namehead = 0;
+      namelink = replicate 96 0;
+      fetch = 0;
+      next = 0;
+      halt = stop 0;
+    }
