@@ -1,0 +1,4 @@
+-- The definitions that the contracts cite.
+pub mod Schedule
+pub mod Chain
+pub mod Result
