@@ -3,3 +3,6 @@ pub mod HeadLaws
 pub mod ChainLaws
 pub mod Marks
 pub mod ResultLaws
+pub mod Unset
+pub mod Bound
+pub mod Laws

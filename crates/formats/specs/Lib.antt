@@ -2,3 +2,4 @@
 pub mod Schedule
 pub mod Chain
 pub mod Result
+pub mod Statement

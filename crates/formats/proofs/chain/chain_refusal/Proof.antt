@@ -9,7 +9,7 @@ use lib.ListN.{length, length-set, replicate}
 use Rattle.formats.specs.Chain.{scheduleRefusal}
 use Rattle.formats.proofs.HeadLaws.{at-least, at-most}
 use Rattle.formats.proofs.Marks.{marked, unmarked}
-use Rattle.formats.proofs.ChainLaws.{ended, beyond, again, refused, goes-on, is-over}
+use Rattle.formats.proofs.ChainLaws.{ended, beyond, again, refused, goes-on, turn, is-over}
 use Rattle.formats.proofs.chain.chain_refusal.Statement.{statement}
 use Rattle.formats.proofs.chain.chain_refusal.Tie as tie
 
@@ -37,11 +37,11 @@ loop-holds c =
 
 returns : tie.Need-returns Inv-loop μ-loop
 returns c =
-    sym (ended _ _ _ _ _ (c .before .loop-test .taken) (c .if1 .taken)) ∙ c .before .before .loop .inv .2
+    sym (turn _ _ _ _ _ (c .before .loop-test .taken) ∙ ended _ _ _ _ (c .if1 .taken)) ∙ c .before .before .loop .inv .2
 
 returns-2 : tie.Need-returns-2 Inv-loop μ-loop
 returns-2 c =
-    sym (beyond _ _ _ _ _ (c .before .before .loop-test .taken) (c .before .if1 .left) (c .if2 .taken)) ∙ c .before .before .before .loop .inv .2
+    sym (turn _ _ _ _ _ (c .before .before .loop-test .taken) ∙ beyond _ _ _ _ (c .before .if1 .left) (c .if2 .taken)) ∙ c .before .before .before .loop .inv .2
 
 array-read-if3 : tie.Need-array-read-if3 Inv-loop μ-loop
 array-read-if3 c =
@@ -49,7 +49,7 @@ array-read-if3 c =
 
 returns-3 : tie.Need-returns-3 Inv-loop μ-loop
 returns-3 c =
-    sym (again _ _ _ _ _ (c .before .before .before .loop-test .taken) (c .before .before .if1 .left) (c .before .if2 .left) (c .if3 .taken)) ∙ c .before .before .before .before .loop .inv .2
+    sym (turn _ _ _ _ _ (c .before .before .before .loop-test .taken) ∙ again _ _ _ _ (c .before .before .if1 .left) (c .before .if2 .left) (c .if3 .taken)) ∙ c .before .before .before .before .loop .inv .2
 
 record-at-requires : tie.Need-record-at-requires Inv-loop μ-loop
 record-at-requires c κs =
@@ -61,7 +61,7 @@ record-refusal-requires c κs =
 
 returns-4 : tie.Need-returns-4 Inv-loop μ-loop
 returns-4 c =
-    sym (refused _ _ _ _ _ (c .before .before .before .before .before .before .loop-test .taken) (c .before .before .before .before .before .if1 .left) (c .before .before .before .before .if2 .left) (c .before .before .before .if3 .left) _ (c .before .before .record-at .ensures) _ (c .before .record-refusal .ensures) (c .if4 .taken)) ∙ c .before .before .before .before .before .before .before .loop .inv .2
+    sym (turn _ _ _ _ _ (c .before .before .before .before .before .before .loop-test .taken) ∙ refused _ _ _ _ (c .before .before .before .before .before .if1 .left) (c .before .before .before .before .if2 .left) (c .before .before .before .if3 .left) _ (c .before .before .record-at .ensures) _ (c .before .record-refusal .ensures) (c .if4 .taken)) ∙ c .before .before .before .before .before .before .before .loop .inv .2
 
 array-write-met : tie.Need-array-write-met Inv-loop μ-loop
 array-write-met c =
@@ -83,7 +83,7 @@ loop-again : tie.Need-loop-again Inv-loop μ-loop
 loop-again c = (
   omega arith,
   length-set (c .before .before .before .before .before .before .before .before .loop .met) (c .before .before .before .before .before .before .before .before .loop .index) true ∙ c .before .before .before .before .before .before .before .before .loop .inv .1,
-  goes-on _ _ _ _ _ (c .before .before .before .before .before .before .before .loop-test .taken) (c .before .before .before .before .before .before .if1 .left) (c .before .before .before .before .before .if2 .left) (c .before .before .before .before .if3 .left) _ (c .before .before .before .record-at .ensures) _ (c .before .before .record-refusal .ensures) (c .before .if4 .left) ∙ c .before .before .before .before .before .before .before .before .loop .inv .2,
+  sym (turn _ _ _ _ _ (c .before .before .before .before .before .before .before .loop-test .taken) ∙ goes-on _ _ _ _ (c .before .before .before .before .before .before .if1 .left) (c .before .before .before .before .before .if2 .left) (c .before .before .before .before .if3 .left) _ (c .before .before .before .record-at .ensures) _ (c .before .before .record-refusal .ensures) (c .before .if4 .left)) ∙ c .before .before .before .before .before .before .before .before .loop .inv .2,
 )
 
 returns-5 : tie.Need-returns-5 Inv-loop μ-loop
