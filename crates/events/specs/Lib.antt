@@ -1,2 +1,4 @@
 -- The definitions that the contracts cite.
 pub mod Counts
+pub mod Numbers
+pub mod Play

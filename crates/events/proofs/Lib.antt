@@ -1,0 +1,3 @@
+-- Laws of the events.
+pub mod EventLaws
+pub mod PlayLaws
