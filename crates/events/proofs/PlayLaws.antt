@@ -78,7 +78,7 @@ unfolding playedAll eventsFrom
 events-more program schedule n index p some = rw (ne-eqb index 0 some)
 
 -- what one event adds to each count
-one-most : (b : Bool) → choose b 1 0 ≤ 1
+pub one-most : (b : Bool) → choose b 1 0 ≤ 1
 one-most true = omega arith
 one-most false = omega arith
 
@@ -175,16 +175,16 @@ module _ (program memory schedule : List ℕ) (index : ℕ) (m : Machine) (bytes
         let added = counts-most ((records schedule - left) * 64) (callBy r) m (made .world .machine) counts (eqb (made .number) 0) count (g .small) in
         record {
           rest = ap (playedAll program (eventsFrom (left - 1) schedule (r .next))) e
-          ∙ ap (λ (x : Record). playedAll program (eventsFrom (left - 1) schedule (x .next)) (played program x here)) at
-          ∙ sym (ap (λ (n : ℕ). playedAll program (eventsFrom n schedule index) here) more ∙ events-more program schedule (left - 1) index here some)
-          ∙ g .rest;
+              ∙ ap (λ (x : Record). playedAll program (eventsFrom (left - 1) schedule (x .next)) (played program x here)) at
+              ∙ sym (ap (λ (n : ℕ). playedAll program (eventsFrom n schedule index) here) more ∙ events-more program schedule (left - 1) index here some)
+              ∙ g .rest;
           commits = _;
           reached = subst (Reached program (origin memory) _) (sym same) (make-reached program (origin memory) (g .commits) (own (callBy r)) w (g .reached));
           met = index ∷ g .met;
           chain = ap (λ (x : Record). chainRefusal (left - 1) schedule (index ∷ g .met) (x .next)) at ∙ chain-on (left - 1) schedule (g .met) index some chained;
           most = let l = g .most in omega arith;
           small = subst (Small ((records schedule - (left - 1)) * 64)) (sym (ap (λ (x : Played). x .counts) e))
-          (subst (λ (n : ℕ). Small n (choose (eqb (made .number) 0) (accepting (callBy r) m (made .world .machine) counts) (refusing counts))) (let l = g .most in omega arith) added);
+              (subst (λ (n : ℕ). Small n (choose (eqb (made .number) 0) (accepting (callBy r) m (made .world .machine) counts) (refusing counts))) (let l = g .most in omega arith) added);
         }
 
 -- no count is too big

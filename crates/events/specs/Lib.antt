@@ -2,3 +2,4 @@
 pub mod Counts
 pub mod Numbers
 pub mod Play
+pub mod Statement

@@ -44,7 +44,11 @@ fn stealing(machine: Machine, r: Record) -> u32
     if machine.count as usize <= position {
         return 0;
     }
-    if completing::steals(machine, position) { 1 } else { 0 }
+    if completing::steals(machine, position) {
+        1
+    } else {
+        0
+    }
 }
 
 // One event: its call, counted.

@@ -4,16 +4,12 @@ use native.Mathlib.Omega.{arith}
 use Rattle.events.proofs.EventLaws.{commits-by}
 use Rattle.events.proofs.counting.committed.Statement.{statement}
 use Rattle.events.proofs.counting.committed.Tie as tie
-use Rattle.events.proofs.counting.committed.Reads as reads
-use Rattle.events.proofs.counting.committed.Lts as lts
 
--- src/counting.rt:14:1
 returns : tie.Need-returns
 returns c =
     let a = (c .before) .args in
     (rw (commits-by (a .r) (eqb (a .cause) 0) true (c .if1 .taken)), omega arith)
 
--- src/counting.rt:14:1
 returns-2 : tie.Need-returns-2
 returns-2 c =
     let a = (c .before) .args in

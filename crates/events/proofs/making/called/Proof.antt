@@ -6,76 +6,58 @@ use Rattle.events.proofs.EventLaws.{by-decode, by-issue, by-complete, b
 use borrow.Author.Needs.{needs}
 use Rattle.events.proofs.making.called.Statement.{statement}
 use Rattle.events.proofs.making.called.Tie as tie
-use Rattle.events.proofs.making.called.Reads as reads
-use Rattle.events.proofs.making.called.Lts as lts
-use Rattle.committing.proofs.commit_within.Reads as commit-within-reads
-use Rattle.completing.proofs.complete_within.Reads as complete-within-reads
-use Rattle.decoding.proofs.decode_within.Reads as decode-within-reads
-use Rattle.issuing.proofs.issue_within.Reads as issue-within-reads
 
--- src/making.rt:24:9
 decode-within-requires : tie.Need-decode-within-requires
 decode-within-requires c κs =
     let s = (c .before .before .before) in
     let m = s .args .machine in
     in-range-window m (in-range-lent m (now (s .args .program)) (now (s .args .«data»)) (s .pre))
 
--- src/making.rt:24:9
 returns : tie.Need-returns
 returns c =
     let s = (c .before .before .before .before) in
     let a = s .args in
     decode-made (now (a .program)) (now (a .«data»)) (a .machine) (s .pre) (callBy (a .r)) (a .r .guess) _ (by-decode (a .r) ((c .before) .if1 .taken)) (c .decode-within .ensures)
 
--- src/making.rt:27:53
 cast-issue-within : tie.Need-cast-issue-within
 cast-issue-within c = search needs
 
--- src/making.rt:27:9
 issue-within-requires : tie.Need-issue-within-requires
 issue-within-requires c κs =
     let s = (c .before .before .before .before .before .before) in
     in-range-lent (s .args .machine) (now (s .args .program)) (now (s .args .«data»)) (s .pre)
 
--- src/making.rt:27:9
 same-length : tie.Need-same-length
 same-length c = search needs
 
--- src/making.rt:27:9
 returns-2 : tie.Need-returns-2
 returns-2 c =
     let s = (c .before .before .before .before .before .before .before) in
     let a = s .args in
     issue-made (now (a .program)) (now (a .«data»)) (a .machine) (s .pre) (callBy (a .r)) (a .r .position) _ (by-issue (a .r) ((c .before .before .before .before) .if1 .left) ((c .before .before .before) .if2 .taken)) (c .issue-within .ensures)
 
--- src/making.rt:30:53
 cast-complete-within : tie.Need-cast-complete-within
 cast-complete-within c = search needs
 
--- src/making.rt:30:9
 complete-within-requires : tie.Need-complete-within-requires
 complete-within-requires c κs =
     let s = (c .before .before .before .before .before .before) in
     in-range-lent (s .args .machine) (now (s .args .program)) (now (s .args .«data»)) (s .pre)
 
--- src/making.rt:30:9
 returns-3 : tie.Need-returns-3
 returns-3 c =
     let s = (c .before .before .before .before .before .before .before) in
     let a = s .args in
     complete-made (now (a .program)) (now (a .«data»)) (a .machine) (s .pre) (callBy (a .r)) (a .r .position) _ (by-complete (a .r) ((c .before .before .before .before) .if1 .left) ((c .before .before .before) .if2 .left) ((c .before .before) .if3 .taken)) (c .complete-within .ensures)
 
--- src/making.rt:32:5
 commit-within-requires : tie.Need-commit-within-requires
 commit-within-requires c κs =
     let s = (c .before .before .before .before .before .before) in
     in-range-lent (s .args .machine) (now (s .args .program)) (now (s .args .«data»)) (s .pre)
 
--- src/making.rt:18:1
 same-length-2 : tie.Need-same-length-2
 same-length-2 c = search needs
 
--- src/making.rt:18:1
 returns-4 : tie.Need-returns-4
 returns-4 c =
     let s = (c .before .before .before .before .before .before .before .before .before) in

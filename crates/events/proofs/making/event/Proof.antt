@@ -5,56 +5,38 @@ use Rattle.events.proofs.EventLaws.{event-refused, event-accepted}
 use borrow.Author.Needs.{needs}
 use Rattle.events.proofs.making.event.Statement.{statement}
 use Rattle.events.proofs.making.event.Tie as tie
-use Rattle.events.proofs.making.event.Reads as reads
-use Rattle.events.proofs.making.event.Lts as lts
-use Rattle.events.proofs.counting.accepted.Reads as accepted-reads
-use Rattle.events.proofs.counting.committed.Reads as committed-reads
-use Rattle.events.proofs.counting.dropped.Reads as dropped-reads
-use Rattle.events.proofs.counting.refused.Reads as refused-reads
-use Rattle.events.proofs.making.called.Reads as called-reads
-use Rattle.events.proofs.making.stealing.Reads as stealing-reads
 
--- src/making.rt:56:9
 stealing-requires : tie.Need-stealing-requires
 stealing-requires c κs =
     let s = (c .before .before) in
     in-range-lent (s .args .machine) (now (s .args .program)) (now (s .args .«data»)) (s .pre .0)
 
--- src/making.rt:57:9
 called-requires : tie.Need-called-requires
 called-requires c κs = search needs
 
--- src/making.rt:60:13
 refused-requires : tie.Need-refused-requires
 refused-requires c κs = search needs
 
--- src/making.rt:61:9
 same-length : tie.Need-same-length
 same-length c = search needs
 
--- src/making.rt:61:9
 returns : tie.Need-returns
 returns c =
     let a = (c .before .before .before .before .before .before .before .before .before .before .before) .args in
     event-refused (now (a .program)) (now (a .«data»)) (a .machine) (a .r) (a .counts) _ _ _ _ ((c .before .before .before .before .before .before) .called .ensures) ((c .before) .if1 .taken) (c .refused .ensures)
 
--- src/making.rt:67:9
 committed-requires : tie.Need-committed-requires
 committed-requires c κs = search needs
 
--- src/making.rt:68:9
 dropped-requires : tie.Need-dropped-requires
 dropped-requires c κs = search needs
 
--- src/making.rt:69:9
 accepted-requires : tie.Need-accepted-requires
 accepted-requires c κs = search needs
 
--- src/making.rt:51:1
 same-length-2 : tie.Need-same-length-2
 same-length-2 c = search needs
 
--- src/making.rt:51:1
 returns-2 : tie.Need-returns-2
 returns-2 c =
     let s = (c .before .before .before .before .before .before .before .before .before .before .before .before .before .before) in

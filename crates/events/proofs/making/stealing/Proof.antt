@@ -5,41 +5,31 @@ use Rattle.events.proofs.EventLaws.{no-theft, theft, theft-none, theft-
 use borrow.Author.Needs.{needs}
 use Rattle.events.proofs.making.stealing.Statement.{statement}
 use Rattle.events.proofs.making.stealing.Tie as tie
-use Rattle.events.proofs.making.stealing.Reads as reads
-use Rattle.events.proofs.making.stealing.Lts as lts
-use Rattle.completing.proofs.steals.Reads as steals-reads
 
--- src/making.rt:40:20
 cast-position : tie.Need-cast-position
 cast-position c = search needs
 
--- src/making.rt:42:9
 returns : tie.Need-returns
 returns c =
     let a = (c .before .before .before) .args in
     (no-theft (a .r) (a .machine) (c .if1 .taken), omega arith)
 
--- src/making.rt:44:8
 cast-if2 : tie.Need-cast-if2
 cast-if2 c = search needs
 
--- src/making.rt:45:9
 returns-2 : tie.Need-returns-2
 returns-2 c =
     let a = (c .before .before .before .before .before) .args in
     (rw (theft (a .r) (a .machine) ((c .before .before) .if1 .left)) (theft-none (a .machine) (a .r .position) (c .if2 .taken)), omega arith)
 
--- src/making.rt:47:8
 steals-requires : tie.Need-steals-requires
 steals-requires c κs = search needs
 
--- src/making.rt:36:1
 returns-3 : tie.Need-returns-3
 returns-3 c =
     let a = (c .before .before .before .before .before .before .before) .args in
     (rw (theft (a .r) (a .machine) ((c .before .before .before .before) .if1 .left)) (theft-some (a .machine) (a .r .position) true ((c .before .before) .if2 .left) (sym (c .if3 .taken) ∙ (c .before) .steals .ensures)), omega arith)
 
--- src/making.rt:36:1
 returns-4 : tie.Need-returns-4
 returns-4 c =
     let a = (c .before .before .before .before .before .before .before) .args in
