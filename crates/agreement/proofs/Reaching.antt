@@ -37,7 +37,7 @@ setup-of m t =
     let d = entriesInRange (m .setup) (m .count) (m .entries) in
     and-left a b (and-left (a && b) c (and-left (a && b && c) d t))
 
-started-reached : (window registers : ℕ) (program memory : List ℕ) → setUpRefusal window registers (length program) (length memory) ≡ 0
+pub started-reached : (window registers : ℕ) (program memory : List ℕ) → setUpRefusal window registers (length program) (length memory) ≡ 0
     → Reached program (origin memory) 0 (started window registers (length program) (length memory) memory)
 started-reached window registers program memory accepted =
     let sizes = accepted-sizes window registers (length program) (length memory) accepted in

@@ -1,0 +1,4 @@
+-- Laws of the events.
+pub mod EventLaws
+pub mod PlayLaws
+pub mod Laws

@@ -1,0 +1,76 @@
+-- What the events of a schedule count.
+use Prim.Native.Nat.{ℕ, _+_, _-_}
+use mathlib.Core.Bool.{Bool, true, false, _&&_}
+use mathlib.Core.List.{List, [], _∷_}
+use lib.Dec.{eqb}
+use Rattle.isa.specs.Reads.{choose}
+use Rattle.formats.specs.declared.Record.{Record}
+use Rattle.machine.specs.declared.Machine.{Machine}
+use Rattle.completing.specs.Complete.{needsRegister, noneFree}
+use Rattle.agreement.specs.Lists.{Call, decode, issue, complete, commit, own, World, Made, make, isCommit}
+use Rattle.events.specs.declared.Counts.{Counts}
+
+-- "Kinds: 1 decode, 2 issue, 3 complete, 4 commit."
+abbrev pub callBy : Record → Call
+callBy r = choose (eqb (r .kind) 1) (decode (r .guess)) (choose (eqb (r .kind) 2) (issue (r .position)) (choose (eqb (r .kind) 3) (complete (r .position)) commit))
+
+-- "Committed counts commits without a halt"
+abbrev pub commits : Call → Machine → ℕ
+commits call after = choose (isCommit call && eqb (after .halt .cause) 0) 1 0
+
+-- a theft: a register is needed and none is free
+abbrev pub steals : Call → Machine → ℕ
+steals (decode guess) before = 0
+steals (issue position) before = 0
+steals (complete position) before = choose (needsRegister before position && noneFree before) 1 0
+steals commit before = 0
+
+-- the entries that a wrong prediction drops, and those behind a halting one; "the halting entry is not a dropped one"
+abbrev pub drops : Call → Machine → Machine → ℕ
+drops (decode guess) before after = 0
+drops (issue position) before after = 0
+drops (complete position) before after = before .count - after .count
+drops commit before after = choose (eqb (after .halt .cause) 0) 0 (before .count - 1)
+
+-- an accepted call
+abbrev pub accepting : Call → Machine → Machine → Counts → Counts
+accepting call before after c =
+    record {
+      accepted = c .accepted + 1;
+      refused = c .refused;
+      committed = c .committed + commits call after;
+      steals = c .steals + steals call before;
+      dropped = c .dropped + drops call before after;
+    }
+
+abbrev pub refusing : Counts → Counts
+refusing c =
+    record {
+      accepted = c .accepted;
+      refused = c .refused + 1;
+      committed = c .committed;
+      steals = c .steals;
+      dropped = c .dropped;
+    }
+
+-- a machine, the data and the counts, as the events so far left them
+pub record Played : Type 0 where
+  pub world : World
+  pub counts : Counts
+
+-- one event
+unfoldable pub played : List ℕ → Record → Played → Played
+played program r p =
+    let made : Made = make program (own (callBy r)) (p .world) in
+    record {
+      world = made .world;
+      counts = choose (eqb (made .number) 0) (accepting (callBy r) (p .world .machine) (made .world .machine) (p .counts)) (refusing (p .counts));
+    }
+
+-- "Replay makes every event, counting refused ones."
+unfoldable pub playedAll : List ℕ → List Record → Played → Played
+playedAll program [] p = p
+playedAll program (r ∷ events) p = playedAll program events (played program r p)
+
+abbrev pub noCounts : Counts
+noCounts = record { accepted = 0; refused = 0; committed = 0; steals = 0; dropped = 0 }

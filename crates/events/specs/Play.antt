@@ -1,0 +1,25 @@
+-- All the events of a schedule, on the machine of its set-up.
+use Prim.Native.Nat.{ℕ}
+use mathlib.Core.Path.{_≡_}
+use mathlib.Core.Bool.{true}
+use mathlib.Core.List.{List}
+use lib.ListN.{length}
+use Rattle.formats.specs.Schedule.{scheduleFits, windowIn, registersIn}
+use Rattle.formats.specs.Chain.{scheduleRefusal, eventsOf}
+use Rattle.machine.specs.SetUp.{freshMachine, setUpRefusal}
+use Rattle.machine.specs.declared.Machine.{Machine}
+use Rattle.agreement.specs.Lists.{started}
+use Rattle.events.specs.Counts.{Played, playedAll, noCounts}
+
+-- the machine of a set-up by record 0, and a schedule, neither of them refused
+pub record Ready (m : Machine) (program memory schedule : List ℕ) : Type 0 where
+  pub fresh : m ≡ freshMachine (windowIn schedule) (registersIn schedule) (length program) (length memory)
+  pub accepted : setUpRefusal (windowIn schedule) (registersIn schedule) (length program) (length memory) ≡ 0
+  pub fits : scheduleFits (length schedule) ≡ true
+  pub chain : scheduleRefusal schedule ≡ 0
+
+abbrev pub playedFrom : List ℕ → List ℕ → List ℕ → Played
+playedFrom program memory schedule = record { world = started (windowIn schedule) (registersIn schedule) (length program) (length memory) memory; counts = noCounts }
+
+unfoldable pub playedOf : List ℕ → List ℕ → List ℕ → Played
+playedOf program memory schedule = playedAll program (eventsOf schedule) (playedFrom program memory schedule)

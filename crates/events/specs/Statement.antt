@@ -1,0 +1,23 @@
+-- What the counts mean, and whose machine and data they come with.
+use Prim.Native.Nat.{ℕ, _+_, _≤_}
+use mathlib.Core.Path.{_≡_}
+use mathlib.Core.List.{List, map}
+use lib.ListN.{length}
+use Rattle.formats.specs.declared.Record.{Record}
+use Rattle.agreement.specs.Lists.{Event, own, World, makeAll}
+use Rattle.events.specs.Counts.{callBy, Played, playedAll, noCounts}
+
+-- the list of calls that demand 3 speaks of
+abbrev pub callsOf : List Record → List Event
+callsOf events = map (λ (r : Record). own (callBy r)) events
+
+abbrev pub countedFrom : World → Played
+countedFrom w = record { world = w; counts = noCounts }
+
+pub record Statement : Type 0 where
+  -- every event is accepted or refused, and counted once
+  pub counted : (program : List ℕ) (events : List Record) (w : World) → let p : Played = playedAll program events (countedFrom w) in p .counts .accepted + p .counts .refused ≡ length events
+  -- a commit that is counted was accepted
+  pub committed : (program : List ℕ) (events : List Record) (w : World) → let p : Played = playedAll program events (countedFrom w) in p .counts .committed ≤ p .counts .accepted
+  -- machine and data are those of the list of calls
+  pub world : (program : List ℕ) (events : List Record) (w : World) → playedAll program events (countedFrom w) .world ≡ makeAll program (callsOf events) w

@@ -1,0 +1,21 @@
+// The events of a schedule, made one after the other on a machine, and counted.
+pub mod counting;
+pub mod making;
+pub mod playing;
+
+use machine::Machine;
+
+// How many calls were accepted and refused, how many commits were made without a halt, how many registers were stolen and
+// how many entries dropped.
+pub struct Counts {
+    pub accepted: u32,
+    pub refused: u32,
+    pub committed: u32,
+    pub steals: u32,
+    pub dropped: u32,
+}
+
+pub struct Played {
+    pub machine: Machine,
+    pub counts: Counts,
+}

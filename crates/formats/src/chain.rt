@@ -1,0 +1,55 @@
+ghost use mathlib.Core.Path.{_≡_};
+ghost use mathlib.Core.Bool.{true};
+ghost use lib.ListN.{length};
+ghost use Rattle.formats.specs.Schedule.{scheduleFits};
+ghost use Rattle.formats.specs.Chain as Chain;
+use crate::Record;
+use crate::schedule;
+
+// refusal 24 for the kind, 25 for a field that must be zero, 0 for none
+fn record_refusal(r: Record) -> u8
+    ensures { λ refusal. ⌜ refusal ≡ Chain.recordRefusal r ⌝ }
+{
+    let kind = r.kind;
+    let known = (1 <= kind) & (kind <= 4);
+    if !known {
+        return 24;
+    }
+    let position = ((kind == 1) | (kind == 4)) & (r.position != 0);
+    let guess = ((kind == 2) | (kind == 3) | (kind == 4)) & (r.guess != 0);
+    if position | guess {
+        return 25;
+    }
+    0
+}
+
+// The first refusal along the chain, 0 for none. A record met is marked, so that one reached twice is seen.
+pub fn chain_refusal(schedule: &[u8]) -> u8
+    requires { ⌜ scheduleFits (length (now schedule)) ≡ true ⌝ }
+    ensures { λ r. ⌜ r ≡ Chain.scheduleRefusal (now (schedule .entry)) ⌝ }
+{
+    let records = schedule.len() / 8;
+    let mut met = [false; 8_192];
+    let mut index = schedule::first_index(schedule) as usize;
+    let mut turns = 0;
+    while turns < records {
+        if index == 0 {
+            return 0;
+        }
+        if records <= index {
+            return 22;
+        }
+        if met[index] {
+            return 23;
+        }
+        let r = schedule::record_at(schedule, index);
+        let refusal = record_refusal(r);
+        if refusal != 0 {
+            return refusal;
+        }
+        met[index] = true;
+        index = r.next as usize;
+        turns += 1;
+    }
+    0
+}

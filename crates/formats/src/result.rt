@@ -1,0 +1,27 @@
+ghost use mathlib.Core.Path.{_≡_};
+ghost use Prim.Native.Nat.{_≤_};
+ghost use lib.ListN.{length};
+ghost use Rattle.formats.specs.Result.{resultBytes, rateOf};
+
+// the words in the lent bytes, each with its lowest byte first
+pub fn lay(words: [u32; 39], result: &mut [u8])
+    requires { ⌜ length (now result) ≡ 156 ⌝ }
+    ensures { λ r. ⌜ now (result .exit) ≡ resultBytes words ⌝ }
+{
+    let mut i = 0;
+    while i < 39 {
+        word::store(result, 4 * i, 4, words[i]);
+        i += 1;
+    }
+}
+
+// committed in 1,000 accepted calls, rounded to the nearest
+pub fn rate(committed: u32, accepted: u32) -> u32
+    requires { ⌜ (committed ≤ 65_536) × (accepted ≤ 65_536) ⌝ }
+    ensures { λ r. ⌜ r ≡ rateOf committed accepted ⌝ }
+{
+    if accepted == 0 {
+        return 0;
+    }
+    (2_000 * committed + accepted) / (2 * accepted)
+}
