@@ -2,10 +2,10 @@
 use Prim.Native.Nat.{ℕ, zero, suc, _+_, _≤_, _<_}
 use mathlib.Core.Path.{_≡_, refl, sym, ap, _∙_}
 use mathlib.Core.Bool.{Bool, true, false}
-use mathlib.Core.List.{List, [], _∷_}
+use mathlib.Core.List.{List, _∷_}
 use native.Mathlib.Nat.{suc-add}
 use native.Mathlib.Omega.{arith}
-use borrow.Author.Tests.{eq-eqb, ne-eqb, eqb-true, eqb-false, leb-true, leb-false}
+use borrow.Author.Tests.{eqb-true, eqb-false, leb-true, leb-false}
 use lib.Dec.{leb, eqb}
 use lib.ListN.{length, getD, set, length-set}
 use lib.Seq.{getD-set-other}
@@ -14,15 +14,8 @@ use Rattle.formats.specs.Chain.{recordRefusal, eventsFrom}
 use Rattle.formats.specs.declared.Record.{Record}
 use Rattle.formats.proofs.Marks.{marked}
 use Rattle.formats.proofs.ChainLaws.{ended, beyond, again, refused, goes-on}
+use Rattle.formats.proofs.Events.{events-ended, events-on}
 use Rattle.formats.proofs.Unset.{unset, unset-set, unset-some}
-
-events-ended : (n : ℕ) (schedule : List ℕ) (index : ℕ) → index ≡ 0 → eventsFrom (suc n) schedule index ≡ []
-unfolding eventsFrom
-events-ended n schedule index z = rw (eq-eqb index 0 z)
-
-events-on : (n : ℕ) (schedule : List ℕ) (index : ℕ) → (index ≡ 0 → ⊥) → eventsFrom (suc n) schedule index ≡ recordAt schedule index ∷ eventsFrom n schedule (recordAt schedule index .next)
-unfolding eventsFrom
-events-on n schedule index z = rw (ne-eqb index 0 z)
 
 module _ (k : ℕ) (schedule : List ℕ) where
   -- n records suffice from here

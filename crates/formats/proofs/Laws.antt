@@ -1,15 +1,15 @@
 -- The statement on a schedule's chain.
-use Prim.Native.Nat.{ℕ, _+_, _≤_, _<_}
-use mathlib.Core.Path.{_≡_, refl, sym, subst, _∙_}
+use Prim.Native.Nat.{ℕ, _+_, _<_}
+use mathlib.Core.Path.{_≡_, sym, subst, _∙_}
 use mathlib.Core.Bool.{Bool, false}
 use mathlib.Core.List.{List, []}
 use native.Mathlib.Omega.{arith}
-use lib.ListN.{length, getD, replicate, length-replicate, getD-replicate}
+use lib.ListN.{length, replicate, length-replicate, getD-replicate}
 use Rattle.formats.specs.Schedule.{records, firstIndex}
 use Rattle.formats.specs.Chain.{isMet, chainRefusal, scheduleRefusal, eventsFrom, eventsOf}
 use Rattle.formats.specs.Statement.{Statement}
 use Rattle.formats.proofs.Marks.{marked, same-walk}
-use Rattle.formats.proofs.Unset.{unset, unset-all}
+use Rattle.formats.proofs.Unset.{unset-all}
 use Rattle.formats.proofs.Bound.{Enough, enough}
 
 -- no mark is set at the start

@@ -1,8 +1,10 @@
 -- Laws that proofs of this crate and of callers cite.
 pub mod HeadLaws
-pub mod ChainLaws
 pub mod Marks
-pub mod ResultLaws
+pub mod ChainLaws
+pub mod Events
 pub mod Unset
 pub mod Bound
+pub mod Passes
+pub mod ResultLaws
 pub mod Laws

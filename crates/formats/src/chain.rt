@@ -23,7 +23,8 @@ fn record_refusal(r: Record) -> u8
     0
 }
 
-// The first refusal along the chain, 0 for none. A record met is marked, so that one reached twice is seen.
+// The first refusal along the chain, 0 for none. A record met is marked, so that one reached twice is seen;
+// no schedule has more than 8,192 records, and no chain more turns than records.
 pub fn chain_refusal(schedule: &[u8]) -> u8
     requires { ⌜ scheduleFits (length (now schedule)) ≡ true ⌝ }
     ensures { λ r. ⌜ r ≡ Chain.scheduleRefusal (now (schedule .entry)) ⌝ }

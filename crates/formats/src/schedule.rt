@@ -1,10 +1,10 @@
 ghost use mathlib.Core.Path.{_≡_};
-ghost use mathlib.Core.Bool.{true};
 ghost use Prim.Native.Nat.{_+_, _*_, _≤_};
 ghost use lib.ListN.{length};
 ghost use Rattle.formats.specs.Schedule as Schedule;
 use crate::Record;
 
+// the record at an index; replay calls it once an event
 pub fn record_at(schedule: &[u8], index: usize) -> Record
     requires { ⌜ 8 * index + 8 ≤ length (now schedule) ⌝ }
     ensures { λ r. ⌜ r ≡ Schedule.recordAt (now (schedule .entry)) index ⌝ }

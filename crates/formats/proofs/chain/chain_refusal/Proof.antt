@@ -82,7 +82,7 @@ loop-less c =
 loop-again : tie.Need-loop-again Inv-loop μ-loop
 loop-again c = (
   omega arith,
-  length-set (c .before .before .before .before .before .before .before .before .loop .met) (c .before .before .before .before .before .before .before .before .loop .index) true ∙ c .before .before .before .before .before .before .before .before .loop .inv .1,
+  length-set (c .before .before .before .before .before .before .before .before .loop .met) (c .before .before .before .before .before .before .before .before .loop .index) _ ∙ c .before .before .before .before .before .before .before .before .loop .inv .1,
   sym (turn _ _ _ _ _ (c .before .before .before .before .before .before .before .loop-test .taken) ∙ goes-on _ _ _ _ (c .before .before .before .before .before .before .if1 .left) (c .before .before .before .before .before .if2 .left) (c .before .before .before .before .if3 .left) _ (c .before .before .before .record-at .ensures) _ (c .before .before .record-refusal .ensures) (c .before .if4 .left)) ∙ c .before .before .before .before .before .before .before .before .loop .inv .2,
 )
 
