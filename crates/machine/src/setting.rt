@@ -35,7 +35,7 @@ fn rise(link: &mut [u8; 96], last: u8)
 }
 
 // refusals 1 to 4, or 0
-fn refusal(window: u32, registers: u32, program: usize, bytes: usize) -> u8
+pub fn refusal(window: u32, registers: u32, program: usize, bytes: usize) -> u8
     ensures { λ r. ⌜ r ≡ setUpRefusal window registers program bytes ⌝ }
 {
     let windowed = (1 <= window) & (window <= 64);

@@ -1,0 +1,95 @@
+-- What the events of a schedule that is not refused come to.
+use Prim.Native.Nat.{ℕ, _+_, _≤_, _<_, _/_}
+use mathlib.Core.Path.{_≡_, refl, sym, ap, subst, _∙_}
+use mathlib.Core.Bool.{true, false}
+use mathlib.Core.List.{List}
+use native.Mathlib.Omega.{arith}
+use borrow.Author.Tests.{eq-eqb, ne-eqb}
+use lib.Dec.{eqb}
+use lib.ListN.{length}
+use Rattle.isa.specs.Reads.{choose}
+use Rattle.machine.specs.SetUp.{freshMachine, setUpRefusal, setUpOf}
+use Rattle.machine.specs.Report.{reportOf}
+use Rattle.machine.specs.declared.Machine.{Machine}
+use Rattle.machine.specs.declared.Answer.{Answer}
+use Rattle.machine.specs.declared.Report.{Report}
+use Rattle.formats.specs.Schedule.{records, windowIn, registersIn, scheduleFits}
+use Rattle.formats.specs.Chain.{scheduleRefusal, eventsOf}
+use Rattle.formats.specs.Result.{rateOf, resultBytes}
+use Rattle.formats.specs.Statement.{Statement}
+use Rattle.formats.proofs.Laws.{statement as chain-laws}
+use Rattle.formats.proofs.HeadLaws.{at-least, at-most}
+use Rattle.events.specs.Counts.{Played}
+use Rattle.events.specs.Numbers.{playedBy}
+use Rattle.events.specs.Play.{Ready, playedFrom, playedOf}
+use Rattle.events.specs.Statement.{Statement as Events}
+use Rattle.events.specs.declared.Played.{Played as Ended}
+use Rattle.events.proofs.Laws.{statement as event-laws}
+use Rattle.bench.specs.Replay.{replayRefusal, figuresOf, wordsOf, nothing, Replay, replayBy, replayOf}
+use Rattle.bench.specs.declared.Replayed.{Replayed}
+use Rattle.bench.proofs.RefusalLaws.{Unrefused, unrefused, head-fits}
+
+-- the machine of record 0's set-up
+set-machine : (window registers program bytes : ℕ) (a : Answer) → a ≡ setUpOf window registers program bytes → setUpRefusal window registers program bytes ≡ 0
+    → a .machine ≡ freshMachine window registers program bytes
+unfolding setUpOf
+set-machine window registers program bytes a e z = ap (λ (x : Answer). x .machine) e ∙ rw (eq-eqb (setUpRefusal window registers program bytes) 0 z)
+
+module _ (program memory schedule : List ℕ) (none : replayRefusal program memory schedule 156 ≡ 0) where
+  abbrev facts : Unrefused program memory schedule 156
+  facts = unrefused program memory schedule 156 none
+
+  fits : scheduleFits (length schedule) ≡ true
+  fits = head-fits schedule (facts .head)
+
+  pub ready : (window registers : ℕ) (a : Answer) → window ≡ windowIn schedule → registers ≡ registersIn schedule
+      → a ≡ setUpOf window registers (length program) (length memory) → Ready (a .machine) program memory schedule
+  ready window registers a w n e =
+      record {
+        fresh = rw (← w, ← n) (set-machine window registers (length program) (length memory) a e (rw (w, n) (facts .set-up)));
+        accepted = facts .set-up;
+        fits = fits;
+        chain = facts .chain;
+      }
+
+  events-few : length (eventsOf schedule) ≤ 8_191
+  events-few =
+      let least = at-least (length schedule) fits in
+      let most = at-most (length schedule) fits in
+      let fewer = chain-laws .events-fewer schedule (omega arith) (facts .chain) in
+      omega arith
+
+  pub accepted-few : playedOf program memory schedule .counts .accepted ≤ 65_536
+  unfolding playedOf
+  accepted-few =
+      let sum = event-laws .counted program (eventsOf schedule) (playedFrom program memory schedule .world) in
+      let few = events-few in
+      omega arith
+
+  pub committed-few : playedOf program memory schedule .counts .committed ≤ 65_536
+  unfolding playedOf
+  committed-few =
+      let less = event-laws .committed program (eventsOf schedule) (playedFrom program memory schedule .world) in
+      let most = accepted-few in
+      omega arith
+
+  pub counts-few : (e : Ended) (bytes : List ℕ) → playedBy e bytes ≡ playedOf program memory schedule → (e .counts .committed ≤ 65_536) × (e .counts .accepted ≤ 65_536)
+  counts-few e bytes q = subst (λ (x : Played). (x .counts .committed ≤ 65_536) × (x .counts .accepted ≤ 65_536)) (sym q) (committed-few, accepted-few)
+
+-- the figures, put together from their parts
+pub figures-are : (p : Played) (e : Ended) (memory : List ℕ) (rate : ℕ) (report : Report) → playedBy e memory ≡ p → rate ≡ rateOf (e .counts .committed) (e .counts .accepted) → report ≡ reportOf (e .machine)
+    → (record { counts = e .counts; rate = rate; halt = e .machine .halt .cause; next = e .machine .next; registers = report .registers; number = 0 } ≡ figuresOf p) × (memory ≡ p .world .memory)
+figures-are p e memory rate report q r s = (rw (← q, r, s), ap (λ (x : Played). x .world .memory) q)
+
+-- replay refused, and replay made
+module _ (program memory schedule result : List ℕ) where
+  pub replay-refused : (number : ℕ) (r : Replayed) → number ≡ replayRefusal program memory schedule (length result) → (number ≡ 0 → ⊥) → r ≡ nothing number
+      → replayOf program memory schedule result ≡ record { answer = r; memory = memory; result = result }
+  unfolding replayOf
+  replay-refused number r e z q = rw (← e, ne-eqb number 0 z, q)
+
+  pub replay-made : (r : Replayed) (bytes laid words : List ℕ) → replayRefusal program memory schedule (length result) ≡ 0 → r ≡ figuresOf (playedOf program memory schedule)
+      → bytes ≡ playedOf program memory schedule .world .memory → words ≡ wordsOf r → laid ≡ resultBytes words
+      → replayOf program memory schedule result ≡ record { answer = r; memory = bytes; result = laid }
+  unfolding replayOf
+  replay-made r bytes laid words e q b w l = rw (eq-eqb (replayRefusal program memory schedule (length result)) 0 e, l, w, b, q)

@@ -1,0 +1,4 @@
+-- Laws of replay.
+pub mod RefusalLaws
+pub mod WordLaws
+pub mod FigureLaws

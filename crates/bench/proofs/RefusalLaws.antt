@@ -1,0 +1,97 @@
+-- The first refusal of a list.
+use Prim.Native.Nat.{ℕ, _≤_}
+use mathlib.Core.Path.{_≡_, refl, sym, ap, _∙_}
+use mathlib.Core.Logic.{_≢_}
+use mathlib.Core.Bool.{Bool, true, false, not}
+use mathlib.Core.List.{List, [], _∷_}
+use borrow.Author.Tests.{eqb-true, eqb-false, eq-eqb, ne-eqb, not-false}
+use lib.Dec.{eqb}
+use lib.ListN.{length}
+use Rattle.isa.specs.Reads.{choose}
+use Rattle.reference.specs.Step.{when, first, lengthRefusal}
+use Rattle.machine.specs.SetUp.{setUpRefusal}
+use Rattle.formats.specs.Schedule.{scheduleFits, malformed, windowIn, registersIn, headRefusal}
+use Rattle.formats.specs.Chain.{scheduleRefusal}
+use Rattle.formats.proofs.HeadLaws.{at-least}
+use Rattle.machine.proofs.RefusalLaws.{passed}
+use Rattle.bench.specs.Replay.{replayRefusal}
+
+-- a number that is refused is the first
+pub at-first : (n a : ℕ) (rest : List ℕ) → n ≡ a → n ≢ 0 → n ≡ first (a ∷ rest)
+unfolding first
+at-first n a rest e z = rw (← e, ne-eqb n 0 z)
+
+pub past-first : (n a : ℕ) (rest : List ℕ) → n ≡ a → n ≡ 0 → first rest ≡ first (a ∷ rest)
+unfolding first
+past-first n a rest e z = rw (← e, z)
+
+-- what comes after refusals that are all 0
+split : (a n : ℕ) (b : Bool) → eqb a 0 ≡ b → choose b n a ≡ 0 → (a ≡ 0) × (n ≡ 0)
+split a n true z e = (eqb-true a 0 z, e)
+split a n false z e = absurd (eqb-false a 0 z e)
+
+pub both-none : (a : ℕ) (rest : List ℕ) → first (a ∷ rest) ≡ 0 → (a ≡ 0) × (first rest ≡ 0)
+unfolding first
+both-none a rest e = split a (first rest) (eqb a 0) refl e
+
+pub head-fits : (schedule : List ℕ) → headRefusal schedule ≡ 0 → scheduleFits (length schedule) ≡ true
+unfolding headRefusal
+head-fits schedule e = not-false _ (passed (not (scheduleFits (length schedule))) 20 (when (malformed schedule) 21 ∷ []) refl e .0)
+
+pub head-long : (schedule : List ℕ) → headRefusal schedule ≡ 0 → 8 ≤ length schedule
+head-long schedule e = at-least (length schedule) (head-fits schedule e)
+
+alone : (n : ℕ) (b : Bool) → eqb n 0 ≡ b → n ≡ choose b 0 n
+alone n true z = eqb-true n 0 z
+alone n false z = refl
+
+-- replay's refusals in turn
+module _ (program memory schedule : List ℕ) (size : ℕ) where
+  abbrev set : ℕ
+  set = setUpRefusal (windowIn schedule) (registersIn schedule) (length program) (length memory)
+
+  pub lengths-stop : (n : ℕ) → n ≡ lengthRefusal program memory → n ≢ 0 → n ≡ replayRefusal program memory schedule size
+  unfolding replayRefusal first
+  lengths-stop n e z = rw (← e, ne-eqb n 0 z)
+
+  pub size-stop : lengthRefusal program memory ≡ 0 → size ≢ 156 → 26 ≡ replayRefusal program memory schedule size
+  unfolding replayRefusal first
+  size-stop l q = rw (l, ne-eqb size 156 q)
+
+  pub head-stop : (n : ℕ) → lengthRefusal program memory ≡ 0 → size ≡ 156 → n ≡ headRefusal schedule → n ≢ 0 → n ≡ replayRefusal program memory schedule size
+  unfolding replayRefusal first
+  head-stop n l q e z = rw (l, eq-eqb size 156 q, ← e, ne-eqb n 0 z)
+
+  pub set-stop : (n : ℕ) → lengthRefusal program memory ≡ 0 → size ≡ 156 → headRefusal schedule ≡ 0 → n ≡ set → n ≢ 0 → n ≡ replayRefusal program memory schedule size
+  unfolding replayRefusal first
+  set-stop n l q h e z = rw (l, eq-eqb size 156 q, h, ← e, ne-eqb n 0 z)
+
+  pub chain-last : (n : ℕ) → lengthRefusal program memory ≡ 0 → size ≡ 156 → headRefusal schedule ≡ 0 → set ≡ 0 → n ≡ scheduleRefusal schedule → n ≡ replayRefusal program memory schedule size
+  unfolding replayRefusal first
+  chain-last n l q h s e = rw (l, eq-eqb size 156 q, h, s, ← e) (alone n (eqb n 0) refl)
+
+  -- what holds where none applies
+  pub record Unrefused : Type 0 where
+    pub lengths : lengthRefusal program memory ≡ 0
+    pub head : headRefusal schedule ≡ 0
+    pub set-up : set ≡ 0
+    pub chain : scheduleRefusal schedule ≡ 0
+
+  pub unrefused : replayRefusal program memory schedule size ≡ 0 → Unrefused
+  unfolding replayRefusal
+  unrefused e =
+      let chain = scheduleRefusal schedule ∷ [] in
+      let after-head = set ∷ chain in
+      let after-size = headRefusal schedule ∷ after-head in
+      let one = both-none (lengthRefusal program memory) (when (not (eqb size 156)) 26 ∷ after-size) e in
+      let two = both-none (when (not (eqb size 156)) 26) after-size (one .1) in
+      let three = both-none (headRefusal schedule) after-head (two .1) in
+      let four = both-none set chain (three .1) in
+      record { lengths = one .0; head = three .0; set-up = four .0; chain = both-none (scheduleRefusal schedule) [] (four .1) .0 }
+
+  pub size-right : replayRefusal program memory schedule size ≡ 0 → size ≡ 156
+  unfolding replayRefusal
+  size-right e =
+      let rest = headRefusal schedule ∷ set ∷ scheduleRefusal schedule ∷ [] in
+      let one = both-none (lengthRefusal program memory) (when (not (eqb size 156)) 26 ∷ rest) e in
+      eqb-true size 156 (not-false _ (passed (not (eqb size 156)) 26 rest refl (one .1) .0))
