@@ -2,3 +2,4 @@
 pub mod RefusalLaws
 pub mod WordLaws
 pub mod FigureLaws
+pub mod Laws

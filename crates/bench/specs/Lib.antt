@@ -1,3 +1,4 @@
--- The definitions that the contracts cite, in reading order.
+-- The definitions that the contracts cite, in reading order, and what a buyer cites.
 pub mod Replay
 pub mod Exported
+pub mod Statement

@@ -1,0 +1,33 @@
+-- A replay that is not refused counts every event and agrees with the in-order run.
+use Prim.Native.Nat.{ℕ}
+use mathlib.Core.Path.{_≡_, sym, subst}
+use mathlib.Core.List.{List}
+use lib.ListN.{length}
+use Rattle.reference.specs.Run.{runOf}
+use Rattle.agreement.specs.Lists.{World, acceptedCommits, origin}
+use Rattle.agreement.specs.Statement.{Agrees}
+use Rattle.agreement.proofs.Demand.{statement as demand}
+use Rattle.formats.specs.Schedule.{windowIn, registersIn}
+use Rattle.formats.specs.Chain.{eventsOf}
+use Rattle.events.specs.Play.{playedFrom, playedOf}
+use Rattle.events.specs.Statement.{callsOf}
+use Rattle.events.proofs.Laws.{statement as event-laws}
+use Rattle.bench.specs.Replay.{replayRefusal}
+use Rattle.bench.specs.Statement.{Statement}
+use Rattle.bench.proofs.RefusalLaws.{unrefused}
+
+agrees : (program memory schedule : List ℕ) → replayRefusal program memory schedule 156 ≡ 0
+    → let commits : ℕ = acceptedCommits program (callsOf (eventsOf schedule)) (playedFrom program memory schedule .world) in
+    Agrees program (playedOf program memory schedule .world) commits (runOf commits program (origin memory))
+unfolding playedOf
+agrees program memory schedule none =
+    let begun : World = playedFrom program memory schedule .world in
+    let calls = callsOf (eventsOf schedule) in
+    let commits : ℕ = acceptedCommits program calls begun in
+    let accepted = unrefused program memory schedule 156 none .set-up in
+    subst (λ (w : World). Agrees program w commits (runOf commits program (origin memory))) (sym (event-laws .world program (eventsOf schedule) begun))
+    (demand (windowIn schedule) (registersIn schedule) program memory accepted calls)
+
+pub statement : Statement
+unfolding playedOf
+statement = record { counted = λ program memory schedule none. event-laws .counted program (eventsOf schedule) (playedFrom program memory schedule .world); agrees = agrees }
