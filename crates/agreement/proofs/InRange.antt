@@ -15,7 +15,8 @@ use Rattle.tables.specs.declared.State.{State as Stage}
 use Rattle.tables.specs.declared.State.the-variants.{Waits, Issued, Completed}
 use Rattle.tables.specs.declared.Entry.{Entry}
 use Rattle.machine.specs.Machine.{namesOf}
-use Rattle.machine.specs.Range.{within, setupInRange, operandInRange, isNone, instructionInRange, causeInRange, storeInRange, entryInRange, entriesInRange, tablesInRange, machineInRange}
+use Rattle.machine.specs.Range.{within, setupInRange, entryInRange, entriesInRange, tablesInRange, machineInRange}
+use Rattle.tables.specs.Ranges.{operandInRange, isNone, instructionInRange, causeInRange, storeInRange}
 use Rattle.machine.specs.declared.Setup.{Setup}
 use Rattle.machine.specs.declared.Machine.{Machine}
 use Rattle.machine.proofs.RangeLaws.{every-holds}

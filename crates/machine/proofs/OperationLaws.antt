@@ -16,7 +16,8 @@ use Rattle.tables.specs.Entry.{emptyEntry, isCompleted}
 use Rattle.tables.specs.declared.Entry.{Entry}
 use Rattle.machine.specs.declared.Setup.{Setup}
 use Rattle.machine.specs.declared.Machine.{Machine}
-use Rattle.machine.specs.Range.{everyFrom, isZero, isNone, entryInRange, setupInRange, tablesInRange, entriesInRange, machineInRange}
+use Rattle.machine.specs.Range.{everyFrom, entryInRange, setupInRange, tablesInRange, entriesInRange, machineInRange}
+use Rattle.tables.specs.Ranges.{isZero, isNone}
 
 -- what a sweep says of an element
 pub every-says : {A : Type 0} (test : A → Bool) (default : A) (from count k : ℕ) (table : List A) → everyFrom test default from count table ≡ true → k < count

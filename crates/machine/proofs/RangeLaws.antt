@@ -7,28 +7,12 @@ use native.Mathlib.Numerals.{add-one}
 use native.Mathlib.Omega.{arith}
 use borrow.Author.Tests.{ne-eqb, lt-leb, le-leb, leb-true}
 use lib.Dec.{leb, eqb}
-use lib.IntN.{ℤ, pos, negsuc}
-use lib.ListN.{getD, List·getD-eq-default}
-use mir.Syntax.{w32}
-use mir.Val.{ofZ, SFits}
+use lib.ListN.{getD}
 use Rattle.laws.proofs.Bools.{and-left, and-right}
-use Rattle.isa.specs.declared.Instruction.{Instruction}
-use Rattle.reference.specs.Actions.{Action, Stops, actions, actionOf}
 use Rattle.reference.specs.Step.{programFits, dataFits}
-use Rattle.reference.specs.Memory.{effective, endsWithinBy, storeEndsWithin}
-use Rattle.machine.specs.Range.{isZero, everyFrom, setupInRange, tablesInRange, entriesInRange, machineInRange}
+use Rattle.machine.specs.Range.{everyFrom, setupInRange, tablesInRange, entriesInRange, machineInRange}
 use Rattle.machine.specs.declared.Setup.{Setup}
 use Rattle.machine.specs.declared.Machine.{Machine}
-
--- a number is 0 where its word is
-pub zero-bits : (c : ℤ) → SFits w32 c → eqb (ofZ w32 c) 0 ≡ isZero c
-zero-bits (pos n) h = refl
-zero-bits (negsuc n) h = let m = h .sfits in ne-eqb (ofZ w32 (negsuc n)) 0 (λ e. omega arith)
-
--- an operation number beyond the last is no store
-pub no-store : (len first : ℕ) (i : Instruction) → 40 ≤ i .operation → true ≡ storeEndsWithin len i first
-unfolding endsWithinBy
-no-store len first i h = sym (ap (λ (a : Action). endsWithinBy a len (effective i first)) (List·getD-eq-default actions (Stops 1) {n = i .operation} h))
 
 and-assoc : (a b c : Bool) → (a && b) && c ≡ a && (b && c)
 and-assoc true b c = refl

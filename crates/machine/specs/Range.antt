@@ -1,17 +1,12 @@
 -- Refusal 5: "a number in it out of range".
 use Prim.Native.Nat.{ℕ, zero, suc}
-use mathlib.Core.Bool.{Bool, true, false, not, _&&_, _||_}
+use mathlib.Core.Bool.{Bool, true, _&&_}
 use mathlib.Core.List.{List, [], _∷_}
-use lib.Dec.{leb, eqb}
-use lib.IntN.{ℤ, pos, negsuc}
+use lib.Dec.{leb}
 use lib.ListN.{getD}
-use Rattle.isa.specs.Encodes.{accepted}
-use Rattle.isa.specs.declared.Instruction.{Instruction}
-use Rattle.reference.specs.Memory.{storeEndsWithin}
 use Rattle.reference.specs.Step.{programFits, dataFits}
-use Rattle.tables.specs.Entry.{emptyEntry, isCompleted}
-use Rattle.tables.specs.declared.Operand.{Operand}
-use Rattle.tables.specs.declared.Operand.the-variants.{Zero, Waiting, Ready}
+use Rattle.tables.specs.Entry.{emptyEntry}
+use Rattle.tables.specs.Ranges.{operandInRange, instructionInRange, causeInRange, storeInRange}
 use Rattle.tables.specs.declared.Entry.{Entry}
 use Rattle.machine.specs.Machine.{namesOf}
 use Rattle.machine.specs.declared.Setup.{Setup}
@@ -30,33 +25,6 @@ within limit from count table = everyFrom (λ (n : ℕ). leb n limit) 0 from cou
 abbrev pub setupInRange : Setup → Bool
 setupInRange s =
     leb 1 (s .window) && leb (s .window) 64 && leb 32 (s .registers) && leb (s .registers) 95 && programFits (s .program) && dataFits (s .bytes)
-
--- name above 31 + W, register above N
-abbrev pub operandInRange : ℕ → ℕ → Operand → Bool
-operandInRange names registers Zero = true
-operandInRange names registers (Waiting name) = leb name names
-operandInRange names registers (Ready name register) = leb name names && leb register registers
-
-abbrev pub isZero : ℤ → Bool
-isZero (pos n) = eqb n 0
-isZero (negsuc n) = false
-
--- "operation 0 with zero fields"
-abbrev pub isNone : Instruction → Bool
-isNone i = eqb (i .operation) 0 && eqb (i .rd) 0 && eqb (i .rs1) 0 && eqb (i .rs2) 0 && isZero (i .constant)
-
--- an instruction that the encoder refuses ("operation 0 with zero fields passes in an entry completed with cause 1 or 4")
-abbrev pub instructionInRange : Entry → Bool
-instructionInRange e =
-    accepted (e .instruction) || isNone (e .instruction) && isCompleted (e .state) && (eqb (e .stop .cause) 1 || eqb (e .stop .cause) 4)
-
--- cause above 7, a cause in an entry not completed
-abbrev pub causeInRange : Entry → Bool
-causeInRange e = leb (e .stop .cause) 7 && (isCompleted (e .state) || eqb (e .stop .cause) 0)
-
--- "a completed store without cause that leaves the data"
-abbrev pub storeInRange : ℕ → Entry → Bool
-storeInRange bytes e = not (isCompleted (e .state) && eqb (e .stop .cause) 0) || storeEndsWithin bytes (e .instruction) (e .first)
 
 unfoldable pub entryInRange : Setup → Entry → Bool
 entryInRange s e =

@@ -3,16 +3,12 @@
 ghost use mathlib.Core.Path.{_≡_};
 ghost use Prim.Native.Nat.{_+_, _≤_, _<_};
 ghost use lib.ListN.{length};
-ghost use Rattle.reference.specs.Memory.{storeEndsWithin};
-ghost use Rattle.tables.specs.Entry as Entries;
 ghost use Rattle.machine.specs.Range as Range;
 ghost use Rattle.machine.specs.Machine as Machines;
 use crate::Machine;
 use crate::Setup;
-use isa::Instruction;
 use tables::Entry;
-use tables::Operand;
-use tables::State;
+use tables::ranges;
 
 // the numbers at 1 to count are at most the limit
 fn within(limit: u8, count: usize, table: &[u8]) -> bool
@@ -39,69 +35,6 @@ fn setup_in_range(s: Setup) -> bool
         & (s.bytes <= 16_384)
 }
 
-fn operand_in_range(names: u8, registers: u8, operand: Operand) -> bool
-    ensures { λ r. ⌜ r ≡ Range.operandInRange names registers operand ⌝ }
-{
-    match operand {
-        Operand::Zero => true,
-        Operand::Waiting(name) => name <= names,
-        Operand::Ready(name, register) => (name <= names) & (register <= registers),
-    }
-}
-
-fn is_completed(state: State) -> bool
-    ensures { λ r. ⌜ r ≡ Entries.isCompleted state ⌝ }
-{
-    match state {
-        State::Waits => false,
-        State::Issued => false,
-        State::Completed => true,
-    }
-}
-
-fn is_none(i: Instruction) -> bool
-    ensures { λ r. ⌜ r ≡ Range.isNone i ⌝ }
-{
-    (i.operation == 0) & (i.rd == 0) & (i.rs1 == 0) & (i.rs2 == 0) & (i.constant == 0)
-}
-
-fn instruction_in_range(e: Entry) -> bool
-    ensures { λ r. ⌜ r ≡ Range.instructionInRange e ⌝ }
-{
-    let i = e.instruction;
-    let state = e.state;
-    let stop = e.stop;
-    isa::accepts(i) | (is_none(i) & is_completed(state) & ((stop.cause == 1) | (stop.cause == 4)))
-}
-
-fn cause_in_range(e: Entry) -> bool
-    ensures { λ r. ⌜ r ≡ Range.causeInRange e ⌝ }
-{
-    let state = e.state;
-    let stop = e.stop;
-    (stop.cause <= 7) & (is_completed(state) | (stop.cause == 0))
-}
-
-// an operation number beyond the last is no store
-fn ends_within(bytes: u16, i: Instruction, first: u32) -> bool
-    ensures { λ r. ⌜ r ≡ storeEndsWithin bytes i first ⌝ }
-{
-    if i.operation < 40 {
-        reference::memory::store_ends_within(bytes as usize, i, first)
-    } else {
-        true
-    }
-}
-
-fn store_in_range(bytes: u16, e: Entry) -> bool
-    ensures { λ r. ⌜ r ≡ Range.storeInRange bytes e ⌝ }
-{
-    let i = e.instruction;
-    let state = e.state;
-    let stop = e.stop;
-    !(is_completed(state) & (stop.cause == 0)) | ends_within(bytes, i, e.first)
-}
-
 fn entry_in_range(s: Setup, e: Entry) -> bool
     requires { ⌜ s .window ≤ 64 ⌝ }
     ensures { λ r. ⌜ r ≡ Range.entryInRange s e ⌝ }
@@ -109,14 +42,14 @@ fn entry_in_range(s: Setup, e: Entry) -> bool
     let names = 31 + s.window;
     let left = e.left;
     let right = e.right;
-    instruction_in_range(e)
+    ranges::instruction_in_range(e)
         & (e.destination <= 31)
         & (e.name <= names)
         & (e.previous <= names)
-        & operand_in_range(names, s.registers, left)
-        & operand_in_range(names, s.registers, right)
-        & cause_in_range(e)
-        & store_in_range(s.bytes, e)
+        & ranges::operand_in_range(names, s.registers, left)
+        & ranges::operand_in_range(names, s.registers, right)
+        & ranges::cause_in_range(e)
+        & ranges::store_in_range(s.bytes, e)
 }
 
 impl Machine {

@@ -3,6 +3,7 @@ pub mod entries;
 pub mod free_list;
 pub mod maps;
 pub mod operands;
+pub mod ranges;
 
 use isa::Instruction;
 use reference::Stop;

@@ -1,6 +1,6 @@
 use borrow.Author.Needs.{needs}
-use Rattle.machine.proofs.range.operand_in_range.Statement.{statement}
-use Rattle.machine.proofs.range.operand_in_range.Tie as tie
+use Rattle.tables.proofs.ranges.operand_in_range.Statement.{statement}
+use Rattle.tables.proofs.ranges.operand_in_range.Tie as tie
 
 enum-told : tie.Need-enum-told
 enum-told c = search needs

@@ -1,6 +1,6 @@
 use borrow.Author.Needs.{needs}
-use Rattle.machine.proofs.range.cause_in_range.Statement.{statement}
-use Rattle.machine.proofs.range.cause_in_range.Tie as tie
+use Rattle.tables.proofs.ranges.cause_in_range.Statement.{statement}
+use Rattle.tables.proofs.ranges.cause_in_range.Tie as tie
 
 is-completed-requires : tie.Need-is-completed-requires
 is-completed-requires c κs = search needs

@@ -1,7 +1,7 @@
-use Rattle.machine.proofs.RangeLaws.{no-store}
+use Rattle.tables.proofs.RangeLaws.{no-store}
 use borrow.Author.Needs.{needs}
-use Rattle.machine.proofs.range.ends_within.Statement.{statement}
-use Rattle.machine.proofs.range.ends_within.Tie as tie
+use Rattle.tables.proofs.ranges.ends_within.Statement.{statement}
+use Rattle.tables.proofs.ranges.ends_within.Tie as tie
 
 store-ends-within-requires : tie.Need-store-ends-within-requires
 store-ends-within-requires c κs = search needs

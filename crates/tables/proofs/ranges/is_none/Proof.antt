@@ -1,9 +1,9 @@
 use borrow.Author.Needs.{needs}
 use mir.Syntax.{w32}
 use mir.ValLaws.{toZ-ofZ}
-use Rattle.machine.proofs.RangeLaws.{zero-bits}
-use Rattle.machine.proofs.range.is_none.Statement.{statement}
-use Rattle.machine.proofs.range.is_none.Tie as tie
+use Rattle.tables.proofs.RangeLaws.{zero-bits}
+use Rattle.tables.proofs.ranges.is_none.Statement.{statement}
+use Rattle.tables.proofs.ranges.is_none.Tie as tie
 
 returns : tie.Need-returns
 returns c =

@@ -1,6 +1,6 @@
 use borrow.Author.Needs.{needs}
-use Rattle.machine.proofs.range.instruction_in_range.Statement.{statement}
-use Rattle.machine.proofs.range.instruction_in_range.Tie as tie
+use Rattle.tables.proofs.ranges.instruction_in_range.Statement.{statement}
+use Rattle.tables.proofs.ranges.instruction_in_range.Tie as tie
 
 accepts-requires : tie.Need-accepts-requires
 accepts-requires c κs = search needs
