@@ -22,7 +22,7 @@ use Rattle.completing.specs.Complete.{shows, robbed, learned, refetched, redire
 use Rattle.committing.specs.Commit.{haltedBy, moveDown, retired}
 use Rattle.machine.specs.declared.Machine.{Machine}
 use Rattle.machine.proofs.TabulateLaws.{tabulate-length}
-use Rattle.agreement.proofs.Stores.{change-length}
+use Rattle.completing.proofs.CompleteLaws.{change-length}
 
 -- a valid bit says that the general map shows a register
 abbrev pub Valid : List Bool → List ℕ → Type 0

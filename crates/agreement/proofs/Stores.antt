@@ -100,12 +100,6 @@ module _ {A : Type 0} (f : A → A) where
   first-changed (suc k) [] = refl
   first-changed (suc k) (x ∷ l) = ap (λ (r : List A). f x ∷ r) (first-changed k l)
 
-  pub change-length : (k : ℕ) (l : List A) → length (changeFirst k f l) ≡ length l
-  unfolding changeFirst
-  change-length zero l = refl
-  change-length (suc k) [] = refl
-  change-length (suc k) (x ∷ l) = ap suc (change-length k l)
-
 pub map-alike : {A B : Type 0} (f g : A → B) (l : List A) → ((x : A) → f x ≡ g x) → map f l ≡ map g l
 map-alike f g [] h = refl
 map-alike {B = B} f g (x ∷ l) h = ap (λ (y : B). y ∷ map f l) (h x) ∙ ap (λ (r : List B). g x ∷ r) (map-alike f g l h)

@@ -1,10 +1,10 @@
--- The first refusal of a list.
+-- Replay's refusals in turn.
 use Prim.Native.Nat.{ℕ, _≤_}
 use mathlib.Core.Path.{_≡_, refl, sym, ap, _∙_}
 use mathlib.Core.Logic.{_≢_}
 use mathlib.Core.Bool.{Bool, true, false, not}
 use mathlib.Core.List.{List, [], _∷_}
-use borrow.Author.Tests.{eqb-true, eqb-false, eq-eqb, ne-eqb, not-false}
+use borrow.Author.Tests.{eqb-true, eq-eqb, ne-eqb, not-false}
 use lib.Dec.{eqb}
 use lib.ListN.{length}
 use Rattle.isa.specs.Reads.{choose}
@@ -13,26 +13,8 @@ use Rattle.machine.specs.SetUp.{setUpRefusal}
 use Rattle.formats.specs.Schedule.{scheduleFits, malformed, windowIn, registersIn, headRefusal}
 use Rattle.formats.specs.Chain.{scheduleRefusal}
 use Rattle.formats.proofs.HeadLaws.{at-least}
-use Rattle.machine.proofs.RefusalLaws.{passed}
+use Rattle.machine.proofs.RefusalLaws.{passed, both-none}
 use Rattle.bench.specs.Replay.{replayRefusal}
-
--- a number that is refused is the first
-pub at-first : (n a : ℕ) (rest : List ℕ) → n ≡ a → n ≢ 0 → n ≡ first (a ∷ rest)
-unfolding first
-at-first n a rest e z = rw (← e, ne-eqb n 0 z)
-
-pub past-first : (n a : ℕ) (rest : List ℕ) → n ≡ a → n ≡ 0 → first rest ≡ first (a ∷ rest)
-unfolding first
-past-first n a rest e z = rw (← e, z)
-
--- what comes after refusals that are all 0
-split : (a n : ℕ) (b : Bool) → eqb a 0 ≡ b → choose b n a ≡ 0 → (a ≡ 0) × (n ≡ 0)
-split a n true z e = (eqb-true a 0 z, e)
-split a n false z e = absurd (eqb-false a 0 z e)
-
-pub both-none : (a : ℕ) (rest : List ℕ) → first (a ∷ rest) ≡ 0 → (a ≡ 0) × (first rest ≡ 0)
-unfolding first
-both-none a rest e = split a (first rest) (eqb a 0) refl e
 
 pub head-fits : (schedule : List ℕ) → headRefusal schedule ≡ 0 → scheduleFits (length schedule) ≡ true
 unfolding headRefusal
@@ -45,7 +27,6 @@ alone : (n : ℕ) (b : Bool) → eqb n 0 ≡ b → n ≡ choose b 0 n
 alone n true z = eqb-true n 0 z
 alone n false z = refl
 
--- replay's refusals in turn
 module _ (program memory schedule : List ℕ) (size : ℕ) where
   abbrev set : ℕ
   set = setUpRefusal (windowIn schedule) (registersIn schedule) (length program) (length memory)

@@ -4,7 +4,7 @@ use mathlib.Core.Path.{_≡_, refl, sym, ap, _∙_}
 use mathlib.Core.Bool.{Bool, true, false, not, _&&_}
 use mathlib.Core.List.{List, [], _∷_}
 use native.Mathlib.Omega.{arith}
-use borrow.Author.Tests.{eq-eqb, ne-eqb, eqb-true, leb-true}
+use borrow.Author.Tests.{eq-eqb, ne-eqb, eqb-true, eqb-false, leb-true}
 use lib.Dec.{leb, eqb}
 use lib.ListN.{length}
 use Rattle.isa.specs.Reads.{choose}
@@ -34,6 +34,14 @@ pub passed : (b : Bool) (n : ℕ) (rest : List ℕ) → eqb n 0 ≡ false → fi
 unfolding first
 passed true n rest z e = impossible (sym z ∙ eq-eqb n 0 (rw z at e))
 passed false n rest z e = (refl, e)
+
+split : (a n : ℕ) (b : Bool) → eqb a 0 ≡ b → choose b n a ≡ 0 → (a ≡ 0) × (n ≡ 0)
+split a n true z e = (eqb-true a 0 z, e)
+split a n false z e = absurd (eqb-false a 0 z e)
+
+pub both-none : (a : ℕ) (rest : List ℕ) → first (a ∷ rest) ≡ 0 → (a ≡ 0) × (first rest ≡ 0)
+unfolding first
+both-none a rest e = split a (first rest) (eqb a 0) refl e
 
 -- the machine as it came with a refusal, or the next one with 0
 module _ (m next : Machine) (refusal : ℕ) where

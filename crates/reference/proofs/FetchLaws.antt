@@ -57,18 +57,6 @@ pub found-small : (program : List ℕ) (address : ℕ) (i : Instruction) → fet
 found-small program address i e =
     subst (λ (n : FetchNumbers). n .found ≡ true → Small (n .fields)) (sym e) (fetched-small program address) refl
 
--- where there is no instruction there is a cause
-pub unfound-cause : (program : List ℕ) (address cause : ℕ) → noInstruction cause ≡ fetchAt program address → cause ≡ 0 → ⊥
-unfolding fetchAt
-unfound-cause program address cause e z = at (accessible (length program) address 4) e
-  where
-    n : Numbers
-    n = readOf (number (byteOf program) address 4)
-
-    at : (b : Bool) → noInstruction cause ≡ choose b (ofReading n) (noInstruction 4) → ⊥
-    at true h = impossible (ap (λ (f : FetchNumbers). f .found) h ∙ eq-eqb (n .cause) 0 (sym (ap (λ (f : FetchNumbers). f .cause) h) ∙ z))
-    at false h = let four : cause ≡ 4 = ap (λ (f : FetchNumbers). f .cause) h in absurd (omega arith)
-
 -- the encoder takes what is fetched
 accepted-at : (b : Bool) (w : ℕ) → choose b (ofReading (readOf w)) (noInstruction 4) .found ≡ true → Accepted (choose b (ofReading (readOf w)) (noInstruction 4) .fields)
 accepted-at true w e = read-accepted w (readOf w .fields) (legal-of (readOf w) e)
@@ -95,3 +83,9 @@ missing-at false w e = record { fields = refl; cause = refl }
 pub fetched-missing : (program : List ℕ) (address : ℕ) → fetchAt program address .found ≡ false → Missing (fetchAt program address)
 unfolding fetchAt
 fetched-missing program address e = missing-at (accessible (length program) address 4) (number (byteOf program) address 4) e
+
+-- where there is no instruction there is a cause
+pub unfound-cause : (program : List ℕ) (address cause : ℕ) → noInstruction cause ≡ fetchAt program address → cause ≡ 0 → ⊥
+unfound-cause program address cause e z =
+    let missing = fetched-missing program address (sym (ap (λ (f : FetchNumbers). f .found) e)) in
+    impossible (subst (λ (n : ℕ). eqb n 1 || eqb n 4 ≡ true) (sym (ap (λ (f : FetchNumbers). f .cause) e) ∙ z) (missing .cause))
