@@ -102,43 +102,59 @@ fn cause_of(fetched: Fetching) -> u8
 }
 
 // the head of the pool of names, after an entry with this destination took it
-fn head_after(destination: u8, head: u8, next: u8) -> u8
+pub fn head_after(destination: u8, head: u8, next: u8) -> u8
     ensures { λ r. ⌜ r ≡ choose (eqb destination 0) head next ⌝ }
 {
     if destination == 0 { head } else { next }
 }
 
 // an entry that waits, with what the general map shows
-fn started(machine: Machine, i: Instruction, guess: u32) -> Entry
-    requires { ⌜ i .operation < 40 ⌝ }
-    ensures { λ r. ⌜ r ≡ Decode.startedEntry machine i guess ⌝ }
+fn started<'a>(
+    mapname: &'a [u8; 32],
+    mapregister: &'a [u8; 32],
+    mapvalid: &'a [bool; 32],
+    head: u8,
+    address: u32,
+    i: Instruction,
+    guess: u32,
+) -> Entry
+    requires { ⌜ (i .operation < 40) × (length (now mapname) ≡ 32) × (length (now mapregister) ≡ 32) × (length (now mapvalid) ≡ 32) ⌝ }
+    ensures { λ r. ⌜ r ≡ Decode.startedEntry (Decode.seen (now (mapname .entry)) (now (mapregister .entry)) (now (mapvalid .entry)) head address) i guess ⌝ }
 {
     let one = reference::first_source(i);
-    let one_name = maps::mapped(&machine.mapname, one);
-    let one_register = maps::mapped(&machine.mapregister, one);
-    let one_valid = maps::is_valid(&machine.mapvalid, one);
+    let one_name = maps::mapped(mapname, one);
+    let one_register = maps::mapped(mapregister, one);
+    let one_valid = maps::is_valid(mapvalid, one);
     let two = reference::second_source(i);
-    let two_name = maps::mapped(&machine.mapname, two);
-    let two_register = maps::mapped(&machine.mapregister, two);
-    let two_valid = maps::is_valid(&machine.mapvalid, two);
+    let two_name = maps::mapped(mapname, two);
+    let two_register = maps::mapped(mapregister, two);
+    let two_valid = maps::is_valid(mapvalid, two);
     let destination = reference::destination_of(i);
-    let previous = maps::mapped(&machine.mapname, destination);
+    let previous = maps::mapped(mapname, destination);
     waiting(
         i,
-        machine.fetch,
-        roles::predicted_next(i, machine.fetch, guess),
+        address,
+        roles::predicted_next(i, address, guess),
         operands::shown(one, one_name, one_register, one_valid),
         operands::shown(two, two_name, two_register, two_valid),
-        name_for(machine.namehead, destination),
+        name_for(head, destination),
         previous,
     )
 }
 
-// the entry that decode enters
-fn entry_for(machine: Machine, program: &[u8], guess: u32) -> Entry
-    ensures { λ r. ⌜ r ≡ Decode.entryFor machine (fetchAt (now (program .entry)) (machine .fetch)) guess ⌝ }
+// The entry that decode enters, by the general map, the head of the pool of names and the fetch address.
+pub fn entry_for<'a>(
+    mapname: &'a [u8; 32],
+    mapregister: &'a [u8; 32],
+    mapvalid: &'a [bool; 32],
+    head: u8,
+    address: u32,
+    program: &[u8],
+    guess: u32,
+) -> Entry
+    requires { ⌜ (length (now mapname) ≡ 32) × (length (now mapregister) ≡ 32) × (length (now mapvalid) ≡ 32) ⌝ }
+    ensures { λ r. ⌜ r ≡ Decode.entryFor (Decode.seen (now (mapname .entry)) (now (mapregister .entry)) (now (mapvalid .entry)) head address) (fetchAt (now (program .entry)) address) guess ⌝ }
 {
-    let address = machine.fetch;
     let fetched = reference::fetch(program, address);
     let cause = cause_of(fetched);
     let Fetching::Found(i) = fetched else {
@@ -155,7 +171,7 @@ fn entry_for(machine: Machine, program: &[u8], guess: u32) -> Entry
     if at_once != 0 {
         return ended(address, i, at_once);
     }
-    started(machine, i, guess)
+    started(mapname, mapregister, mapvalid, head, address, i, guess)
 }
 
 // the destination's name is shown, not valid, and the name is taken from the pool
@@ -195,7 +211,15 @@ pub fn decode_within(machine: Machine, program: &[u8], guess: u32) -> Answer
     if number != 0 {
         return Answer { machine, number };
     }
-    let e = entry_for(machine, program, guess);
+    let e = entry_for(
+        &machine.mapname,
+        &machine.mapregister,
+        &machine.mapvalid,
+        machine.namehead,
+        machine.fetch,
+        program,
+        guess,
+    );
     let next = enter(machine, e);
     Answer {
         machine: next,

@@ -12,12 +12,14 @@ use Rattle.reference.specs.Step.{when, first}
 use Rattle.formats.specs.Schedule.{recordAt, records, firstIndex}
 use Rattle.formats.specs.Chain.{recordRefusal, isMet, chainRefusal, eventsFrom}
 use Rattle.formats.specs.declared.Record.{Record}
+use Rattle.machine.specs.Range.{machineInRange}
 use Rattle.machine.specs.Call.{lentRefusal}
 use Rattle.machine.specs.declared.Machine.{Machine}
 use Rattle.machine.proofs.RefusalLaws.{passed}
 use Rattle.machine.proofs.ReportLaws.{in-range-count}
 use Rattle.completing.specs.Complete.{needsRegister, noneFree}
 use Rattle.agreement.specs.Lists.{Call, decode, issue, complete, commit, own, World, Made, make, isCommit, origin}
+use Rattle.agreement.proofs.Kept.{Kept}
 use Rattle.agreement.proofs.Safe.{Reached, make-reached}
 use Rattle.agreement.proofs.Reaching.{started-reached, reached-range, reached-lent}
 use Rattle.events.specs.declared.Counts.{Counts}
@@ -139,21 +141,51 @@ begins program memory schedule m index ready e =
       small = record { accepted = omega arith; refused = omega arith; committed = omega arith; steals = omega arith; dropped = omega arith };
     }
 
-module _ (program memory schedule : List ℕ) (index : ℕ) (m : Machine) (bytes : List ℕ) (counts : Counts) where
+module _ {program memory schedule : List ℕ} {left index : ℕ} {m : Machine} {bytes : List ℕ} {counts : Counts} (g : Going program memory schedule left index m bytes counts) where
   abbrev here : Played
   here = record { world = record { machine = m; memory = bytes }; counts = counts }
 
-  pub ends : (left : ℕ) → Going program memory schedule left index m bytes counts → left ≡ 0 → here ≡ playedOf program memory schedule
-  ends left g z = sym (ap (λ (n : ℕ). playedAll program (eventsFrom n schedule index) here) z ∙ events-none program schedule index here) ∙ g .rest
+  abbrev w : World
+  w = record { machine = m; memory = bytes }
 
-  pub chain-ends : (left : ℕ) → Going program memory schedule left index m bytes counts → index ≡ 0 → here ≡ playedOf program memory schedule
-  chain-ends left g z = sym (ap (λ (i : ℕ). playedAll program (eventsFrom left schedule i) here) z ∙ events-ended program schedule left here) ∙ g .rest
+  pub ends : left ≡ 0 → here ≡ playedOf program memory schedule
+  ends z = sym (ap (λ (n : ℕ). playedAll program (eventsFrom n schedule index) here) z ∙ events-none program schedule index here) ∙ g .rest
 
-  pub is-lent : (left : ℕ) → Going program memory schedule left index m bytes counts → lentRefusal m program bytes ≡ 0
-  is-lent left g = reached-lent program (origin memory) (g .commits) (record { machine = m; memory = bytes }) (g .reached)
+  pub chain-ends : index ≡ 0 → here ≡ playedOf program memory schedule
+  chain-ends z = sym (ap (λ (i : ℕ). playedAll program (eventsFrom left schedule i) here) z ∙ events-ended program schedule left here) ∙ g .rest
+
+  -- 5 and 6 do not apply
+  pub is-lent : lentRefusal m program bytes ≡ 0
+  is-lent = reached-lent program (origin memory) (g .commits) w (g .reached)
+
+  pub in-range : machineInRange m ≡ true
+  in-range = reached-range program (origin memory) (g .commits) w (g .reached)
+
+  -- the lengths of the tables
+  pub kept : Kept m
+  kept = g .reached .fit .kept
+
+  pub few : m .count ≤ 64
+  few = in-range-count m in-range
+
+  pub roomy : m .count ≤ length (m .entries)
+  roomy = omega (arith, few, kept .entries)
+
+  -- no count is too big
+  pub small-enough : length schedule ≤ 65_536 → Small 100_000_000 counts
+  small-enough l =
+      let s = g .small in
+      let k : (records schedule - left) * 64 ≤ 524_288 = omega arith in
+      record {
+        accepted = let a = s .accepted in omega arith;
+        refused = let a = s .refused in omega arith;
+        committed = let a = s .committed in omega arith;
+        steals = let a = s .steals in omega arith;
+        dropped = let a = s .dropped in omega arith;
+      }
 
   -- a record is there
-  module _ (left : ℕ) (g : Going program memory schedule left index m bytes counts) (turns : left ≡ 0 → ⊥) (some : index ≡ 0 → ⊥) where
+  module _ (turns : left ≡ 0 → ⊥) (some : index ≡ 0 → ⊥) where
     more : left ≡ suc (left - 1)
     more = omega arith
 
@@ -168,11 +200,9 @@ module _ (program memory schedule : List ℕ) (index : ℕ) (m : Machine) (bytes
         → Going program memory schedule (left - 1) (r .next) (p .world .machine) (p .world .memory) (p .counts)
     unfolding played
     goes-on r at p e =
-        let w : World = record { machine = m; memory = bytes } in
         let made : Made = make program (own (callBy r)) w in
         let same : p .world ≡ made .world = ap (λ (x : Played). x .world) e in
-        let count : m .count ≤ 64 = in-range-count m (reached-range program (origin memory) (g .commits) w (g .reached)) in
-        let added = counts-most ((records schedule - left) * 64) (callBy r) m (made .world .machine) counts (eqb (made .number) 0) count (g .small) in
+        let added = counts-most ((records schedule - left) * 64) (callBy r) m (made .world .machine) counts (eqb (made .number) 0) few (g .small) in
         record {
           rest = ap (playedAll program (eventsFrom (left - 1) schedule (r .next))) e
               ∙ ap (λ (x : Record). playedAll program (eventsFrom (left - 1) schedule (x .next)) (played program x here)) at
@@ -186,17 +216,3 @@ module _ (program memory schedule : List ℕ) (index : ℕ) (m : Machine) (bytes
           small = subst (Small ((records schedule - (left - 1)) * 64)) (sym (ap (λ (x : Played). x .counts) e))
               (subst (λ (n : ℕ). Small n (choose (eqb (made .number) 0) (accepting (callBy r) m (made .world .machine) counts) (refusing counts))) (let l = g .most in omega arith) added);
         }
-
--- no count is too big
-pub small-enough : (program memory schedule : List ℕ) (left index : ℕ) (m : Machine) (bytes : List ℕ) (counts : Counts) → length schedule ≤ 65_536 → Going program memory schedule left index m bytes counts
-    → Small 100_000_000 counts
-small-enough program memory schedule left index m bytes counts l g =
-    let s = g .small in
-    let k : (records schedule - left) * 64 ≤ 524_288 = omega arith in
-    record {
-      accepted = let a = s .accepted in omega arith;
-      refused = let a = s .refused in omega arith;
-      committed = let a = s .committed in omega arith;
-      steals = let a = s .steals in omega arith;
-      dropped = let a = s .dropped in omega arith;
-    }

@@ -2,6 +2,7 @@
 pub mod counting;
 pub mod making;
 pub mod playing;
+pub mod ways;
 
 use machine::Machine;
 

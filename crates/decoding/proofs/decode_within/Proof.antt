@@ -20,24 +20,25 @@ returns : tie.Need-returns
 unfolding decodeWithin
 returns c =
     let a = (c .before .before .before .before .before) .args in
-    let m = a .machine in
-    answered-refused m (decoded (now (a .program)) (a .guess) m) (decodeRefusal m) _ ((c .before) .refusal .ensures ∙ refusal-is m) ((c) .if1 .taken)
+    let m = a .t1 in
+    answered-refused m (decoded (now (a .program)) (a .guess) m) (decodeRefusal m) _ ((c .before) .refusal .ensures ∙ refusal-is m) (c .if1 .taken)
 
 entry-for-requires : tie.Need-entry-for-requires
 entry-for-requires c κs = search needs
 
 enter-requires : tie.Need-enter-requires
 enter-requires c κs =
-    let m = (c .before .before .before .before .before .before) .args .machine in
-    omega (arith, has-place m (sym ((c .before .before) .refusal .ensures ∙ refusal-is m) ∙ (c .before) .if1 .left), (c .before .before .before .before .before .before) .pre)
+    let s = (c .before .before .before .before .before .before .before .before .before .before) in
+    let m = s .args .t1 in
+    omega (arith, has-place m (sym ((c .before .before .before .before .before .before) .refusal .ensures ∙ refusal-is m) ∙ (c .before .before .before .before .before) .if1 .left), s .pre)
 
 returns-2 : tie.Need-returns-2
 unfolding decodeWithin
 returns-2 c =
-    let a = (c .before .before .before .before .before .before .before) .args in
-    let m = a .machine in
+    let a = (c .before .before .before .before .before .before .before .before .before .before .before) .args in
+    let m = a .t1 in
     ap (λ (k : Machine). record { machine = k; number = 0 }) (c .enter .ensures ∙ ap (λ (e : Entry). enter e m) ((c .before) .entry-for .ensures))
-    ∙ answered-next m (decoded (now (a .program)) (a .guess) m) (decodeRefusal m) (sym ((c .before .before .before) .refusal .ensures ∙ refusal-is m) ∙ (c .before .before) .if1 .left)
+    ∙ answered-next m (decoded (now (a .program)) (a .guess) m) (decodeRefusal m) (sym ((c .before .before .before .before .before .before .before) .refusal .ensures ∙ refusal-is m) ∙ (c .before .before .before .before .before .before) .if1 .left)
 
 pub decode-within-spec : {M : Type 1} → statement M
 decode-within-spec =

@@ -1,11 +1,10 @@
 use mathlib.Core.Path.{_≡_, sym, ap, _∙_}
-use Prim.Native.Nat.{ℕ}
 use denote.Ref.{now}
 use Rattle.reference.specs.Fetch.{FetchNumbers, fetchNumbers, fetchAt}
 use Rattle.reference.proofs.FetchLaws.{found-small, unfound-cause}
 use Rattle.isa.specs.Reads.{none}
-use Rattle.tables.specs.declared.Entry.{Entry}
-use Rattle.decoding.specs.Decode.{endedEntry}
+use Rattle.machine.specs.declared.Machine.{Machine}
+use Rattle.decoding.specs.Decode.{seen, endedEntry}
 use Rattle.decoding.proofs.DecodeLaws.{entry-none, entry-at-once, entry-waits}
 use borrow.Author.Needs.{needs}
 use Rattle.decoding.proofs.entry_for.Statement.{statement}
@@ -30,15 +29,16 @@ returns : tie.Need-returns
 returns c =
     let a = (c .before .before .before .before .before .before) .args in
     let program = now (a .program) in
-    let m = a .machine in
+    let m : Machine = seen (now (a .mapname)) (now (a .mapregister)) (now (a .mapvalid)) (a .head) (a .address) in
     let told = ap fetchNumbers ((c .before) .enum-told .given .1) in
     let e = sym told ∙ (c .before .before .before .before) .fetch .ensures in
     let cause = (c .before .before .before) .cause-of .ensures ∙ ap (λ (f : FetchNumbers). f .cause) told in
-    c .ended .ensures ∙ ap (endedEntry (m .fetch) none) cause ∙ entry-none m (fetchAt program (m .fetch)) (a .guess) _ e (unfound-cause program (m .fetch) _ e)
+    c .ended .ensures ∙ ap (endedEntry (a .address) none) cause ∙ entry-none m (fetchAt program (a .address)) (a .guess) _ e (unfound-cause program (a .address) _ e)
 
 cause-at-once-requires : tie.Need-cause-at-once-requires
 cause-at-once-requires c κs =
-    found-small (now ((c .before .before .before .before .before .before) .args .program)) ((c .before .before .before .before .before .before) .args .machine .fetch) _ (sym (ap fetchNumbers ((c .before) .fetched .given .1)) ∙ (c .before .before .before .before) .fetch .ensures) .operation
+    let a = (c .before .before .before .before .before .before) .args in
+    found-small (now (a .program)) (a .address) _ (sym (ap fetchNumbers ((c .before) .fetched .given .1)) ∙ (c .before .before .before .before) .fetch .ensures) .operation
 
 ended-requires-2 : tie.Need-ended-requires-2
 ended-requires-2 c κs = search needs
@@ -46,21 +46,23 @@ ended-requires-2 c κs = search needs
 returns-2 : tie.Need-returns-2
 returns-2 c =
     let a = (c .before .before .before .before .before .before .before .before .before) .args in
-    let m = a .machine in
+    let m : Machine = seen (now (a .mapname)) (now (a .mapregister)) (now (a .mapvalid)) (a .head) (a .address) in
     let e = sym (ap fetchNumbers ((c .before .before .before .before) .fetched .given .1)) ∙ (c .before .before .before .before .before .before .before) .fetch .ensures in
     let once = (c .before .before) .cause-at-once .ensures in
-    c .ended2 .ensures ∙ ap (endedEntry (m .fetch) _) once ∙ entry-at-once m (fetchAt (now (a .program)) (m .fetch)) (a .guess) _ e (λ z. (c .before) .if1 .taken (once ∙ z))
+    c .ended2 .ensures ∙ ap (endedEntry (a .address) _) once ∙ entry-at-once m (fetchAt (now (a .program)) (a .address)) (a .guess) _ e (λ z. (c .before) .if1 .taken (once ∙ z))
 
 started-requires : tie.Need-started-requires
 started-requires c κs =
-    found-small (now ((c .before .before .before .before .before .before .before .before) .args .program)) ((c .before .before .before .before .before .before .before .before) .args .machine .fetch) _ (sym (ap fetchNumbers ((c .before .before .before) .fetched .given .1)) ∙ (c .before .before .before .before .before .before) .fetch .ensures) .operation
+    let s = (c .before .before .before .before .before .before .before .before) in
+    let a = s .args in
+    (found-small (now (a .program)) (a .address) _ (sym (ap fetchNumbers ((c .before .before .before) .fetched .given .1)) ∙ (c .before .before .before .before .before .before) .fetch .ensures) .operation, s .pre .0, s .pre .1, s .pre .2)
 
 returns-3 : tie.Need-returns-3
 returns-3 c =
     let a = (c .before .before .before .before .before .before .before .before .before) .args in
-    let m = a .machine in
+    let m : Machine = seen (now (a .mapname)) (now (a .mapregister)) (now (a .mapvalid)) (a .head) (a .address) in
     let e = sym (ap fetchNumbers ((c .before .before .before .before) .fetched .given .1)) ∙ (c .before .before .before .before .before .before .before) .fetch .ensures in
-    c .started .ensures ∙ entry-waits m (fetchAt (now (a .program)) (m .fetch)) (a .guess) _ e (sym ((c .before .before) .cause-at-once .ensures) ∙ (c .before) .if1 .left)
+    c .started .ensures ∙ entry-waits m (fetchAt (now (a .program)) (a .address)) (a .guess) _ e (sym ((c .before .before) .cause-at-once .ensures) ∙ (c .before) .if1 .left)
 
 pub entry-for-spec : {M : Type 1} → statement M
 entry-for-spec =

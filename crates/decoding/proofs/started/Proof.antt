@@ -1,18 +1,6 @@
-use mathlib.Core.Path.{_≡_}
-use lib.ListN.{length}
 use borrow.Author.Needs.{needs}
 use Rattle.decoding.proofs.started.Statement.{statement}
 use Rattle.decoding.proofs.started.Tie as tie
-
--- the general map's lengths
-mapname-long : (s : tie.Start) → length (s .args .t1 .mapname) ≡ 32
-mapname-long s = search needs
-
-mapregister-long : (s : tie.Start) → length (s .args .t1 .mapregister) ≡ 32
-mapregister-long s = search needs
-
-mapvalid-long : (s : tie.Start) → length (s .args .t1 .mapvalid) ≡ 32
-mapvalid-long s = search needs
 
 first-source-requires : tie.Need-first-source-requires
 first-source-requires c κs = search needs
@@ -33,19 +21,16 @@ mapped-requires-3 : tie.Need-mapped-requires-3
 mapped-requires-3 c κs = search needs
 
 mapped-requires-4 : tie.Need-mapped-requires-4
-mapped-requires-4 c κs =
-    mapregister-long (c .before .before .before .before .before .before .before .before .before .before .before .before .before .before .before .before)
+mapped-requires-4 c κs = search needs
 
 is-valid-requires-2 : tie.Need-is-valid-requires-2
-is-valid-requires-2 c κs =
-    mapvalid-long (c .before .before .before .before .before .before .before .before .before .before .before .before .before .before .before .before .before .before .before)
+is-valid-requires-2 c κs = search needs
 
 destination-of-requires : tie.Need-destination-of-requires
 destination-of-requires c κs = search needs
 
 mapped-requires-5 : tie.Need-mapped-requires-5
-mapped-requires-5 c κs =
-    mapname-long (c .before .before .before .before .before .before .before .before .before .before .before .before .before .before .before .before .before .before .before .before .before .before .before)
+mapped-requires-5 c κs = search needs
 
 predicted-next-requires : tie.Need-predicted-next-requires
 predicted-next-requires c κs = search needs
@@ -64,7 +49,7 @@ waiting-requires c κs = search needs
 
 returns : tie.Need-returns
 returns c =
-    rw (c .waiting .ensures, (c .before .before .before .before) .predicted-next .ensures, (c .before .before .before) .shown .ensures, (c .before .before) .shown2 .ensures, (c .before) .name-for .ensures, (c .before .before .before .before .before .before .before .before .before .before .before .before .before .before .before .before .before .before .before .before .before .before .before .before .before) .mapped .ensures, (c .before .before .before .before .before .before .before .before .before .before .before .before .before .before .before .before .before .before .before .before .before .before) .mapped2 .ensures, (c .before .before .before .before .before .before .before .before .before .before .before .before .before .before .before .before .before .before .before) .is-valid .ensures, (c .before .before .before .before .before .before .before .before .before .before .before .before .before .before .before) .mapped3 .ensures, (c .before .before .before .before .before .before .before .before .before .before .before .before) .mapped4 .ensures, (c .before .before .before .before .before .before .before .before .before) .is-valid2 .ensures, (c .before .before .before .before .before) .mapped5 .ensures, (c .before .before .before .before .before .before .before .before .before .before .before .before .before .before .before .before .before .before .before .before .before .before .before .before .before .before .before .before) .first-source .ensures, (c .before .before .before .before .before .before .before .before .before .before .before .before .before .before .before .before .before .before) .second-source .ensures, (c .before .before .before .before .before .before .before .before) .destination-of .ensures)
+    rw (c .waiting .ensures, (c .before .before .before .before) .predicted-next .ensures, (c .before .before .before) .shown .ensures, (c .before .before) .shown2 .ensures, (c .before) .name-for .ensures, (c .before .before .before .before .before .before .before .before .before .before .before .before .before) .mapped .ensures, (c .before .before .before .before .before .before .before .before .before .before .before .before) .mapped2 .ensures, (c .before .before .before .before .before .before .before .before .before .before .before) .is-valid .ensures, (c .before .before .before .before .before .before .before .before .before) .mapped3 .ensures, (c .before .before .before .before .before .before .before .before) .mapped4 .ensures, (c .before .before .before .before .before .before .before) .is-valid2 .ensures, (c .before .before .before .before .before) .mapped5 .ensures, (c .before .before .before .before .before .before .before .before .before .before .before .before .before .before) .first-source .ensures, (c .before .before .before .before .before .before .before .before .before .before) .second-source .ensures, (c .before .before .before .before .before .before) .destination-of .ensures)
 
 pub started-spec : {M : Type 1} → statement M
 started-spec =
