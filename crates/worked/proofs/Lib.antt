@@ -1,2 +1,6 @@
--- The worked values hold.
+-- The worked values hold: one computed test, and what it says of each row.
+pub mod SameLaws
+pub mod RefusedLaws
+pub mod ClaimLaws
+pub mod TableLaws
 pub mod Values

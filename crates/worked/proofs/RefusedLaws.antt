@@ -1,0 +1,42 @@
+-- A refused call leaves machine and data as they came.
+use Prim.Native.Nat.{ℕ}
+use mathlib.Core.Path.{_≡_, refl}
+use mathlib.Core.Logic.{_≢_}
+use mathlib.Core.List.{List}
+use lib.Dec.{eqb}
+use Rattle.machine.specs.Call.{entryAt, lentRefusal, inTurn, answered}
+use Rattle.machine.specs.declared.Machine.{Machine}
+use Rattle.machine.specs.declared.Answer.{Answer}
+use Rattle.decoding.specs.Decode.{decodeRefusal, decoded, decodeOf}
+use Rattle.issuing.specs.Issue.{issueRefusal, issued, issueOf}
+use Rattle.completing.specs.Complete.{completeRefusal, completed, completeOf}
+use Rattle.committing.specs.Commit.{Commit, commitRefusal, committed, writtenBy, commitBy, commitOf}
+use Rattle.agreement.specs.Lists.{Call, decode, issue, complete, commit, own, World, Made, madeBy, make}
+use Rattle.agreement.proofs.Tests.{by-choice}
+
+module _ (w : World) where
+  abbrev Stays : Made → Type 0
+  Stays made = made .number ≢ 0 → made .world ≡ w
+
+  answered-stays : (next : Machine) (refusal : ℕ) → Stays (madeBy (answered (w .machine) refusal next .machine) (w .memory) (answered (w .machine) refusal next .number))
+  answered-stays next refusal =
+      by-choice (λ (a : Answer). Stays (madeBy (a .machine) (w .memory) (a .number))) (eqb refusal 0) (record { machine = next; number = 0 })
+      (record { machine = w .machine; number = refusal }) (λ e z. absurd (z refl)) (λ e z. refl)
+
+  commit-stays : (refusal : ℕ)
+      → let c : Commit = commitBy refusal (w .memory) (w .machine) in
+      Stays (madeBy (c .answer .machine) (c .memory) (c .answer .number))
+  commit-stays refusal =
+      by-choice (λ (c : Commit). Stays (madeBy (c .answer .machine) (c .memory) (c .answer .number))) (eqb refusal 0)
+      (record { answer = record { machine = committed (w .machine); number = 0 }; memory = writtenBy (entryAt (w .machine) 0) (w .memory) })
+      (record { answer = record { machine = w .machine; number = refusal }; memory = w .memory }) (λ e z. absurd (z refl)) (λ e z. refl)
+
+  pub call-stays : (program : List ℕ) (call : Call) → Stays (make program (own call) w)
+  unfolding make decodeOf issueOf completeOf commitOf
+  call-stays program (decode guess) =
+      answered-stays (decoded program guess (w .machine)) (inTurn (lentRefusal (w .machine) program (w .memory)) (decodeRefusal (w .machine)))
+  call-stays program (issue position) =
+      answered-stays (issued (w .memory) position (w .machine)) (inTurn (lentRefusal (w .machine) program (w .memory)) (issueRefusal position (w .machine)))
+  call-stays program (complete position) =
+      answered-stays (completed position (w .machine)) (inTurn (lentRefusal (w .machine) program (w .memory)) (completeRefusal position (w .machine)))
+  call-stays program commit = commit-stays (inTurn (lentRefusal (w .machine) program (w .memory)) (commitRefusal (w .machine)))

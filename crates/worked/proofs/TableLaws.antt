@@ -1,0 +1,47 @@
+-- The one test of the table, and what it says of each row.
+use mathlib.Core.Path.{_≡_, refl}
+use mathlib.Core.Bool.{Bool, true}
+use mathlib.Core.List.{List, _∷_}
+use Rattle.laws.proofs.Bools.{and-left, and-right}
+use Rattle.word.specs.Field.{field}
+use Rattle.word.specs.Signed.{extend}
+use Rattle.word.specs.Bytes.{number, put}
+use Rattle.isa.specs.Reads.{fixedPart, operationFrom, operationOf, constantOf, fieldsOf, readOf}
+use Rattle.isa.specs.Encodes.{within, accepted, constantPart, wordOf}
+use Rattle.reference.specs.Memory.{accessible, secondBy, storedBy, endsWithinBy}
+use Rattle.reference.specs.Execute.{executedBy}
+use Rattle.reference.specs.Fetch.{fetchAt}
+use Rattle.reference.specs.Roles.{loadsBy, storesBy, causeBy, predictedBy}
+use Rattle.reference.specs.Step.{readRegister, writeRegister, stepWith, first}
+use Rattle.tables.specs.Table.{lookUnder, storeUnder}
+use Rattle.machine.specs.Machine.{tabulateFrom}
+use Rattle.machine.specs.SetUp.{risingLink, setUpRefusal, setUpOf}
+use Rattle.machine.specs.Range.{everyFrom, entryInRange, tablesInRange, machineInRange}
+use Rattle.machine.specs.Call.{changeFirst, lentRefusal}
+use Rattle.decoding.specs.Decode.{decodeRefusal, enter, decodeOf}
+use Rattle.issuing.specs.Issue.{storeBelow, issueRefusal, issued, issueOf}
+use Rattle.completing.specs.Complete.{victimAmong, completeRefusal, robbed, learned, redirected, completeOf}
+use Rattle.committing.specs.Commit.{commitRefusal, moveDown, retired, commitOf}
+use Rattle.agreement.specs.Lists.{make, makeAll}
+use Rattle.worked.specs.Same.{sameList}
+use Rattle.worked.specs.Calls.{answersFrom}
+use Rattle.worked.specs.Claims.{test}
+use Rattle.worked.specs.Table.{Row, table, holds, Means, every, check, In, here, there}
+use Rattle.worked.proofs.ClaimLaws.{says}
+
+-- computed from the definitions
+pub passes : check ≡ true
+unfolding field extend number put fixedPart operationFrom operationOf constantOf fieldsOf readOf within accepted constantPart wordOf accessible secondBy storedBy endsWithinBy executedBy fetchAt loadsBy storesBy causeBy predictedBy readRegister writeRegister stepWith first lookUnder storeUnder tabulateFrom risingLink setUpRefusal setUpOf everyFrom entryInRange tablesInRange machineInRange changeFirst lentRefusal decodeRefusal enter decodeOf storeBelow issueRefusal issued issueOf victimAmong completeRefusal robbed learned redirected completeOf commitRefusal moveDown retired commitOf make makeAll sameList answersFrom test every
+passes = refl
+
+-- what passes at every row passes at each
+pub every-in : (f : Row → Bool) (r : Row) (rows : List Row) → In r rows → every f rows ≡ true → f r ≡ true
+unfolding every
+every-in f r (_ ∷ rows) here t = and-left (f r) (every f rows) t
+every-in f r (other ∷ rows) (there i) t = every-in f r rows i (and-right (f other) (every f rows) t)
+
+pub row-holds : (r : Row) → In r table → holds r ≡ true
+row-holds r i = every-in holds r table i passes
+
+pub row-means : (r : Row) → In r table → Means r
+row-means r i = says (r .claim) (row-holds r i)
