@@ -20,7 +20,7 @@ use Rattle.issuing.specs.Issue.{issued}
 use Rattle.completing.specs.Complete.{outcomeAt, victimOf, noneFree, registerFor, suppliedFor, robbed, learned, registered, refetched, redirected, completed}
 use Rattle.machine.specs.declared.Machine.{Machine}
 use Rattle.machine.proofs.DropLaws.{drop-count}
-use Rattle.agreement.proofs.Stores.{change-length}
+use Rattle.completing.proofs.CompleteLaws.{change-length}
 use Rattle.agreement.proofs.Turns.{At}
 use Rattle.agreement.proofs.Tests.{by-choice}
 use Rattle.agreement.proofs.Views.{drops-count}

@@ -13,7 +13,7 @@ use Rattle.machine.specs.Drop.{dropYoungest, dropMany, dropTo}
 use Rattle.issuing.specs.Issue.{issued}
 use Rattle.completing.specs.Complete.{outcomeAt, victimOf, noneFree, registerFor, suppliedFor, robbed, learned, registered, refetched, redirected, completed}
 use Rattle.machine.specs.declared.Machine.{Machine}
-use Rattle.agreement.proofs.Stores.{change-length}
+use Rattle.completing.proofs.CompleteLaws.{change-length}
 use Rattle.agreement.proofs.Tests.{by-choice}
 
 pub record Shrinks (a b : Machine) : Type 0 where
