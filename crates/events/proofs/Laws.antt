@@ -13,7 +13,10 @@ use Rattle.agreement.specs.Lists.{Call, own, World, Made, make, makeAll, isComm
 use Rattle.events.specs.declared.Counts.{Counts}
 use Rattle.events.specs.Counts.{callBy, accepting, refusing, Played, played, playedAll}
 use Rattle.events.specs.Statement.{callsOf, countedFrom, Statement}
-use Rattle.events.proofs.PlayLaws.{one-most}
+
+pub one-most : (b : Bool) → choose b 1 0 ≤ 1
+one-most true = omega arith
+one-most false = omega arith
 
 module _ (call : Call) (before after : Machine) (c : Counts) where
   abbrev next : Bool → Counts

@@ -4,7 +4,7 @@ use mathlib.Core.Path.{_≡_, refl, sym, ap, subst, _∙_}
 use mathlib.Core.Bool.{Bool, true, false, _&&_}
 use mathlib.Core.List.{List, [], _∷_}
 use native.Mathlib.Omega.{arith}
-use borrow.Author.Tests.{eq-eqb, ne-eqb, eqb-true, leb-false}
+use borrow.Author.Tests.{eq-eqb, ne-eqb, leb-false}
 use lib.Dec.{leb, eqb}
 use lib.ListN.{length}
 use Rattle.isa.specs.Reads.{choose}
@@ -15,7 +15,7 @@ use Rattle.formats.specs.declared.Record.{Record}
 use Rattle.machine.specs.Range.{machineInRange}
 use Rattle.machine.specs.Call.{lentRefusal}
 use Rattle.machine.specs.declared.Machine.{Machine}
-use Rattle.machine.proofs.RefusalLaws.{passed}
+use Rattle.machine.proofs.RefusalLaws.{passed, both-none}
 use Rattle.machine.proofs.ReportLaws.{in-range-count}
 use Rattle.completing.specs.Complete.{needsRegister, noneFree}
 use Rattle.agreement.specs.Lists.{Call, decode, issue, complete, commit, own, World, Made, make, isCommit, origin}
@@ -26,19 +26,7 @@ use Rattle.events.specs.declared.Counts.{Counts}
 use Rattle.events.specs.Counts.{callBy, commits, steals, drops, accepting, refusing, Played, played, playedAll, noCounts}
 use Rattle.events.specs.Numbers.{Small}
 use Rattle.events.specs.Play.{Ready, playedFrom, playedOf}
-
--- none of the refusals applies, so not the first, nor one of the rest
-zero-first : (x : ℕ) (rest : List ℕ) → first (x ∷ rest) ≡ 0 → x ≡ 0
-unfolding first
-zero-first x rest = at (eqb x 0) refl
-  where
-    at : (b : Bool) → eqb x 0 ≡ b → choose b (first rest) x ≡ 0 → x ≡ 0
-    at true z e = eqb-true x 0 z
-    at false z e = e
-
-zero-rest : (x : ℕ) (rest : List ℕ) → x ≡ 0 → first (x ∷ rest) ≡ 0 → first rest ≡ 0
-unfolding first
-zero-rest x rest z e = rw (eq-eqb x 0 z) at e
+use Rattle.events.proofs.Laws.{one-most}
 
 -- what a chain that is not refused says of the index that leads to a record, and of the rest
 module _ (n : ℕ) (schedule met : List ℕ) (index : ℕ) (some : index ≡ 0 → ⊥) (e : chainRefusal (suc n) schedule met index ≡ 0) where
@@ -61,8 +49,7 @@ module _ (n : ℕ) (schedule met : List ℕ) (index : ℕ) (some : index ≡ 0 �
   chain-on : chainRefusal n schedule (index ∷ met) (r .next) ≡ 0
   chain-on =
       let rest = passed (isMet index met) 23 later refl (within .1) .1 in
-      let own = zero-first (recordRefusal r) (chainRefusal n schedule (index ∷ met) (r .next) ∷ []) rest in
-      zero-first (chainRefusal n schedule (index ∷ met) (r .next)) [] (zero-rest (recordRefusal r) (chainRefusal n schedule (index ∷ met) (r .next) ∷ []) own rest)
+      both-none (chainRefusal n schedule (index ∷ met) (r .next)) [] (both-none (recordRefusal r) (chainRefusal n schedule (index ∷ met) (r .next) ∷ []) rest .1) .0
 
 -- the events, one after the other
 events-none : (program schedule : List ℕ) (index : ℕ) (p : Played) → playedAll program (eventsFrom 0 schedule index) p ≡ p
@@ -80,10 +67,6 @@ unfolding playedAll eventsFrom
 events-more program schedule n index p some = rw (ne-eqb index 0 some)
 
 -- what one event adds to each count
-pub one-most : (b : Bool) → choose b 1 0 ≤ 1
-one-most true = omega arith
-one-most false = omega arith
-
 drops-most : (call : Call) (before after : Machine) → drops call before after ≤ before .count
 drops-most (decode guess) before after = omega arith
 drops-most (issue position) before after = omega arith
