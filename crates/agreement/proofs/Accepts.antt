@@ -9,7 +9,7 @@ use lib.Dec.{leb, eqb}
 use lib.ListN.{length}
 use Rattle.isa.specs.Reads.{choose}
 use Rattle.laws.proofs.Bools.{impossible, both}
-use Rattle.reference.specs.Roles.{loads}
+use Rattle.execution.specs.Roles.{loads}
 use Rattle.reference.specs.Step.{when}
 use Rattle.tables.specs.Operand.{isReady}
 use Rattle.tables.specs.Entry.{isWaiting, isIssued, isCompleted, held}

@@ -7,7 +7,7 @@ use lib.ListN.{getD, set}
 use Rattle.isa.specs.declared.Instruction.{Instruction}
 use Rattle.reference.specs.Fetch.{fetchAt}
 use Rattle.reference.specs.Step.{State, state, firstSource, secondSource, destination, readRegister, firstOf, secondOf, stepOf}
-use Rattle.reference.specs.declared.Stop.{Stop}
+use Rattle.execution.specs.declared.Stop.{Stop}
 use Rattle.tables.specs.declared.State.{State as Stage}
 use Rattle.tables.specs.declared.State.the-variants.{Waits, Issued, Completed}
 use Rattle.tables.specs.declared.Entry.{Entry}

@@ -5,9 +5,9 @@ use mathlib.Core.Logic.{_≢_}
 use mathlib.Core.List.{List}
 use native.Mathlib.Omega.{arith}
 use lib.ListN.{length, getD}
-use Rattle.reference.specs.Memory.{stored}
+use Rattle.execution.specs.Memory.{stored}
 use Rattle.reference.specs.Step.{State, stepOf}
-use Rattle.reference.specs.declared.Stop.{Stop}
+use Rattle.execution.specs.declared.Stop.{Stop}
 use Rattle.tables.specs.Entry.{emptyEntry}
 use Rattle.tables.specs.declared.State.the-variants.{Completed}
 use Rattle.tables.specs.declared.Entry.{Entry}

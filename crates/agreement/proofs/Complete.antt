@@ -5,9 +5,9 @@ use mathlib.Core.Logic.{_≢_}
 use mathlib.Core.List.{List}
 use native.Mathlib.Omega.{arith}
 use lib.ListN.{length, getD}
-use Rattle.reference.specs.Execute.{executed}
+use Rattle.execution.specs.Execute.{executed}
 use Rattle.reference.specs.Step.{State, Step, destination, readRegister, firstOf, secondOf}
-use Rattle.reference.specs.declared.Outcome.{Outcome}
+use Rattle.execution.specs.declared.Outcome.{Outcome}
 use Rattle.tables.specs.Entry.{completedEntry, stoppedEntry, predictedEntry}
 use Rattle.tables.specs.declared.State.the-variants.{Issued}
 use Rattle.tables.specs.declared.Entry.{Entry}

@@ -5,8 +5,8 @@ use mathlib.Core.List.{List, [], _∷_, _++_, map}
 use lib.Dec.{eqb}
 use lib.ListN.{length, getD, set, take, drop}
 use Rattle.isa.specs.Reads.{choose}
-use Rattle.reference.specs.Execute.{stop}
-use Rattle.reference.specs.declared.Stop.{Stop}
+use Rattle.execution.specs.Execute.{stop}
+use Rattle.execution.specs.declared.Stop.{Stop}
 use Rattle.tables.specs.Entry.{emptyEntry, withOperands, waitingEntry, completedEntry, predictedEntry}
 use Rattle.tables.specs.declared.Operand.{Operand}
 use Rattle.tables.specs.declared.Operand.the-variants.{Zero, Waiting, Ready}

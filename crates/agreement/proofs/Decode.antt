@@ -8,9 +8,9 @@ use lib.Dec.{eqb}
 use lib.ListN.{length, getD}
 use Rattle.isa.specs.Reads.{choose}
 use Rattle.isa.specs.declared.Instruction.{Instruction}
-use Rattle.reference.specs.Execute.{stop}
+use Rattle.execution.specs.Execute.{stop}
 use Rattle.reference.specs.Fetch.{FetchNumbers, fetchAt}
-use Rattle.reference.specs.Roles.{predictedNext}
+use Rattle.execution.specs.Roles.{predictedNext}
 use Rattle.reference.specs.Step.{State, firstSource, secondSource, destination}
 use Rattle.tables.specs.declared.Operand.the-variants.{Zero}
 use Rattle.tables.specs.declared.State.the-variants.{Waits}

@@ -10,9 +10,9 @@ use lib.ListN.{getD}
 use Rattle.isa.specs.Reads.{choose}
 use Rattle.isa.specs.declared.Instruction.{Instruction}
 use Rattle.reference.specs.Fetch.{FetchNumbers, fetchAt}
-use Rattle.reference.specs.Memory.{secondValue}
-use Rattle.reference.specs.Execute.{stop}
-use Rattle.reference.specs.Roles.{loads, stores, predictedNext}
+use Rattle.execution.specs.Memory.{secondValue}
+use Rattle.execution.specs.Execute.{stop}
+use Rattle.execution.specs.Roles.{loads, stores, predictedNext}
 use Rattle.reference.specs.Step.{State, firstSource, secondSource, destination}
 use Rattle.tables.specs.Table.{lookUp, lookValid}
 use Rattle.tables.specs.Operand.{isReady, valueOf}

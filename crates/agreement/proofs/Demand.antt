@@ -11,7 +11,7 @@ use lib.ListN.{length, getD}
 use Rattle.isa.specs.Reads.{choose}
 use Rattle.reference.specs.Run.{runOf}
 use Rattle.reference.specs.Step.{State}
-use Rattle.reference.specs.declared.Stop.{Stop}
+use Rattle.execution.specs.declared.Stop.{Stop}
 use Rattle.tables.specs.Table.{lookUp}
 use Rattle.tables.proofs.TableLaws.{look-within}
 use Rattle.machine.specs.Drop.{dropTo}

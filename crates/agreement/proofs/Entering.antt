@@ -7,7 +7,7 @@ use native.Mathlib.Omega.{arith}
 use lib.ListN.{length, getD, set, length-set, length-append}
 use lib.Seq.{getD-set-other, getD-set-same}
 use Rattle.reference.specs.Fetch.{fetchAt}
-use Rattle.reference.specs.Execute.{stop}
+use Rattle.execution.specs.Execute.{stop}
 use Rattle.reference.specs.Step.{firstSource, secondSource, destination}
 use Rattle.tables.specs.FreeList.{occurrences}
 use Rattle.tables.specs.declared.State.the-variants.{Waits, Completed}

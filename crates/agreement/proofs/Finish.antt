@@ -6,9 +6,9 @@ use mathlib.Core.List.{List, _∷_, map}
 use native.Mathlib.Omega.{arith}
 use lib.ListN.{length, getD, set, take, length-set, length-map, List·getD-map}
 use lib.Seq.{getD-set-other}
-use Rattle.reference.specs.Execute.{executed}
+use Rattle.execution.specs.Execute.{executed}
 use Rattle.reference.specs.Step.{State, destination}
-use Rattle.reference.specs.declared.Outcome.{Outcome}
+use Rattle.execution.specs.declared.Outcome.{Outcome}
 use Rattle.tables.specs.Entry.{emptyEntry, waitingEntry, completedEntry, stoppedEntry}
 use Rattle.tables.specs.declared.State.the-variants.{Issued, Completed}
 use Rattle.tables.specs.declared.Entry.{Entry}

@@ -9,7 +9,7 @@ use lib.Dec.{leb, eqb}
 use lib.ListN.{length, getD}
 use Rattle.laws.proofs.Bools.{impossible, both}
 use Rattle.isa.specs.Encodes.{accepted}
-use Rattle.reference.specs.Memory.{storeEndsWithin}
+use Rattle.execution.specs.Memory.{storeEndsWithin}
 use Rattle.tables.specs.Entry.{emptyEntry, isCompleted}
 use Rattle.tables.specs.declared.State.{State as Stage}
 use Rattle.tables.specs.declared.State.the-variants.{Waits, Issued, Completed}

@@ -6,8 +6,8 @@ use mathlib.Core.List.{List}
 use native.Mathlib.Omega.{arith}
 use lib.ListN.{length, getD, take}
 use lib.Seq.{getD-take, length-take-le}
-use Rattle.reference.specs.Memory.{secondValue}
-use Rattle.reference.specs.Roles.{loads, stores}
+use Rattle.execution.specs.Memory.{secondValue}
+use Rattle.execution.specs.Roles.{loads, stores}
 use Rattle.reference.specs.Step.{State, firstSource, secondSource, readRegister, firstOf, secondOf}
 use Rattle.tables.specs.Operand.{isReady, valueOf}
 use Rattle.tables.specs.Entry.{emptyEntry, issuedEntry}

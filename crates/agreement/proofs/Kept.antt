@@ -9,7 +9,7 @@ use lib.Dec.{T, eqb}
 use lib.ListN.{length, getD, set, take, drop, replicate, length-set, length-drop, length-append}
 use lib.Seq.{length-take-le}
 use Rattle.isa.specs.Reads.{choose}
-use Rattle.reference.specs.declared.Stop.{Stop}
+use Rattle.execution.specs.declared.Stop.{Stop}
 use Rattle.tables.specs.Table.{lookUnder, lookUp, lookValid, storeUnder}
 use Rattle.tables.specs.Entry.{emptyEntry, completedEntry, waitingEntry, sleepEntry, wakeEntry}
 use Rattle.tables.specs.declared.Entry.{Entry}

@@ -7,8 +7,8 @@ use lib.Dec.{eqb}
 use lib.ListN.{length, getD, set, length-set}
 use lib.Seq.{getD-set-same, getD-set-other}
 use Rattle.reference.specs.Fetch.{FetchNumbers, fetchAt}
-use Rattle.reference.specs.declared.Stop.{Stop}
-use Rattle.reference.specs.declared.Outcome.{Outcome}
+use Rattle.execution.specs.declared.Stop.{Stop}
+use Rattle.execution.specs.declared.Outcome.{Outcome}
 use Rattle.tables.specs.Entry.{emptyEntry, completedEntry, stoppedEntry, predictedEntry, waitingEntry, wakeEntry, sleepEntry}
 use Rattle.tables.specs.declared.State.{State as Stage}
 use Rattle.tables.specs.declared.State.the-variants.{Waits, Issued, Completed}

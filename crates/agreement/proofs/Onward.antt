@@ -8,8 +8,8 @@ use borrow.Author.Tests.{eq-eqb, ne-eqb}
 use lib.ListN.{length, getD}
 use Rattle.isa.specs.Reads.{choose}
 use Rattle.laws.proofs.Bools.{impossible}
-use Rattle.reference.specs.Execute.{onward}
-use Rattle.reference.specs.Roles.{loads}
+use Rattle.execution.specs.Execute.{onward}
+use Rattle.execution.specs.Roles.{loads}
 use Rattle.reference.specs.Step.{State}
 use Rattle.tables.specs.Entry.{emptyEntry, isIssued}
 use Rattle.tables.specs.Operand.{isReady}

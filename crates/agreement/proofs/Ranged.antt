@@ -15,15 +15,15 @@ use Rattle.isa.specs.Encodes.{accepted}
 use Rattle.isa.specs.Reads.{choose, none}
 use Rattle.isa.specs.declared.Instruction.{Instruction}
 use Rattle.isa.proofs.Accepted.{accepted-holds}
-use Rattle.reference.specs.Execute.{stop, executed}
+use Rattle.execution.specs.Execute.{stop, executed}
 use Rattle.reference.specs.Fetch.{FetchNumbers, fetchAt}
-use Rattle.reference.specs.Memory.{stored, storeEndsWithin}
-use Rattle.reference.specs.Roles.{causeAtOnce}
+use Rattle.execution.specs.Memory.{stored, storeEndsWithin}
+use Rattle.execution.specs.Roles.{causeAtOnce}
 use Rattle.reference.specs.Step.{State, Step, firstSource, secondSource, firstOf, secondOf, reached, stoppedAt, settled, destination, writeRegister, stepWith, stepOf}
-use Rattle.reference.specs.declared.Stop.{Stop}
-use Rattle.reference.specs.declared.Outcome.{Outcome}
+use Rattle.execution.specs.declared.Stop.{Stop}
+use Rattle.execution.specs.declared.Outcome.{Outcome}
 use Rattle.reference.proofs.FetchLaws.{fetched-accepted, fetched-missing}
-use Rattle.reference.proofs.OutcomeLaws.{executed-proper, executed-ends}
+use Rattle.execution.proofs.OutcomeLaws.{executed-proper, executed-ends}
 use Rattle.tables.specs.Table.{lookUp}
 use Rattle.tables.specs.FreeList.{Spells, occurrences}
 use Rattle.tables.specs.Entry.{emptyEntry, isWaiting, isIssued}

@@ -9,7 +9,7 @@ use lib.Dec.{leb}
 use lib.ListN.{length}
 use Rattle.laws.proofs.Bools.{and-left}
 use Rattle.reference.specs.Step.{State}
-use Rattle.reference.specs.declared.Stop.{Stop}
+use Rattle.execution.specs.declared.Stop.{Stop}
 use Rattle.machine.specs.SetUp.{freshMachine, setUpRefusal}
 use Rattle.machine.specs.Range.{setupInRange, tablesInRange, entriesInRange, machineInRange}
 use Rattle.machine.specs.Call.{lentRefusal}

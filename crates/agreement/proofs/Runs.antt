@@ -3,11 +3,11 @@ use Prim.Native.Nat.{ℕ, _+_}
 use mathlib.Core.Path.{_≡_, refl, ap, _∙_}
 use mathlib.Core.List.{List}
 use native.Mathlib.Nat.{add-zero}
-use Rattle.reference.specs.Execute.{stop}
+use Rattle.execution.specs.Execute.{stop}
 use Rattle.reference.specs.Run.{Run, after, runOf}
 use Rattle.reference.specs.Statement.{continued}
 use Rattle.reference.specs.Step.{State, stepOf}
-use Rattle.reference.specs.declared.Stop.{Stop}
+use Rattle.execution.specs.declared.Stop.{Stop}
 use Rattle.reference.proofs.RunLaws.{run-step, run-stop, composed}
 
 -- a run that made k steps

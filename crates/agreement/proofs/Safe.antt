@@ -8,12 +8,12 @@ use borrow.Author.Tests.{ne-eqb}
 use lib.Dec.{eqb}
 use lib.ListN.{length, getD}
 use Rattle.isa.specs.Reads.{choose}
-use Rattle.reference.specs.Execute.{stop}
+use Rattle.execution.specs.Execute.{stop}
 use Rattle.reference.specs.Fetch.{FetchNumbers, fetchAt}
-use Rattle.reference.specs.Memory.{stored}
+use Rattle.execution.specs.Memory.{stored}
 use Rattle.reference.specs.Run.{runOf}
 use Rattle.reference.specs.Step.{State, Step, stoppedAt, stepWith, stepOf}
-use Rattle.reference.specs.declared.Stop.{Stop}
+use Rattle.execution.specs.declared.Stop.{Stop}
 use Rattle.reference.proofs.Laws.{statement}
 use Rattle.tables.specs.Entry.{stoppedEntry, completedEntry, held}
 use Rattle.tables.specs.declared.Entry.{Entry}

@@ -5,7 +5,7 @@ use mathlib.Core.List.{List}
 use native.Mathlib.Omega.{arith}
 use lib.Dec.{eqb}
 use lib.ListN.{length, set, length-set}
-use Rattle.reference.specs.declared.Outcome.{Outcome}
+use Rattle.execution.specs.declared.Outcome.{Outcome}
 use Rattle.tables.specs.Entry.{emptyEntry, completedEntry, stoppedEntry, predictedEntry, waitingEntry, wakeEntry, sleepEntry}
 use Rattle.tables.specs.declared.Entry.{Entry}
 use Rattle.machine.specs.Call.{entryAt, place}

@@ -4,7 +4,7 @@ use mathlib.Core.Path.{_≡_, refl, _∙_}
 use mathlib.Core.Bool.{Bool, true, false}
 use lib.Dec.{eqb}
 use Rattle.isa.specs.Reads.{choose}
-use Rattle.reference.specs.declared.Stop.{Stop}
+use Rattle.execution.specs.declared.Stop.{Stop}
 use Rattle.tables.specs.declared.Entry.{Entry}
 use Rattle.machine.specs.Call.{entryAt, place}
 use Rattle.decoding.specs.Decode.{enter}

@@ -14,14 +14,14 @@ use Rattle.isa.specs.Listing.{Format, R, I, S, B, U, J, Shift, Whole, formatOf}
 use Rattle.isa.specs.Reads.{choose, none, legal, fieldsOf, operationOf, readAs, readOf}
 use Rattle.isa.specs.declared.Instruction.{Instruction}
 use Rattle.isa.proofs.ReadLaws.{legal-word, operation-kept}
-use Rattle.reference.specs.Actions.{Action, Computes, LoadsSigned, LoadsUnsigned, Stores, Stops, actionOf}
-use Rattle.reference.specs.Memory.{accessible, secondBy, secondValue, storedBy, stored}
-use Rattle.reference.specs.Execute.{stop, executedBy, executed}
-use Rattle.reference.specs.Roles.{loadsBy, loads, storesBy, stores, causeBy, causeAtOnce}
+use Rattle.execution.specs.Actions.{Action, Computes, LoadsSigned, LoadsUnsigned, Stores, Stops, actionOf}
+use Rattle.execution.specs.Memory.{accessible, secondBy, secondValue, storedBy, stored}
+use Rattle.execution.specs.Execute.{stop, executedBy, executed}
+use Rattle.execution.specs.Roles.{loadsBy, loads, storesBy, stores, causeBy, causeAtOnce}
 use Rattle.reference.specs.Fetch.{FetchNumbers, noInstruction, ofReading, fetchAt}
 use Rattle.reference.specs.Step.{State, Step, firstSource, secondSource, destination, readRegister, writeRegister, reached, stoppedAt, settled, firstOf, secondOf, stepWith, stepOf}
-use Rattle.reference.specs.declared.Stop.{Stop}
-use Rattle.reference.specs.declared.Outcome.{Outcome}
+use Rattle.execution.specs.declared.Stop.{Stop}
+use Rattle.execution.specs.declared.Outcome.{Outcome}
 use Rattle.reference.proofs.StepLaws.{choose-either, step-registers}
 use Rattle.reference.proofs.Laws.{statement}
 use Rattle.decoding.specs.Decode.{enteringCause}

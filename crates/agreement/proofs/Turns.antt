@@ -7,8 +7,8 @@ use native.Mathlib.Omega.{arith}
 use borrow.Author.Tests.{eqb-true, eqb-false, not-false, leb-false}
 use lib.Dec.{eqb, leb}
 use Rattle.isa.specs.Reads.{choose}
-use Rattle.reference.specs.Memory.{stored}
-use Rattle.reference.specs.Roles.{loads}
+use Rattle.execution.specs.Memory.{stored}
+use Rattle.execution.specs.Roles.{loads}
 use Rattle.reference.specs.Step.{when}
 use Rattle.laws.proofs.Bools.{impossible, and-left, and-right}
 use Rattle.tables.specs.Operand.{isReady}

@@ -9,7 +9,7 @@ use lib.Dec.{eqb}
 use lib.ListN.{length, getD, set, take, drop, length-drop}
 use lib.Seq.{getD-take, take-take, take-set-le, take-set-lt, take-suc-set, take-at, length-take-le}
 use Rattle.isa.specs.Reads.{choose}
-use Rattle.reference.specs.declared.Stop.{Stop}
+use Rattle.execution.specs.declared.Stop.{Stop}
 use Rattle.tables.specs.Table.{lookUp, storeUnder}
 use Rattle.tables.specs.FreeList.{freedHead, freedLink, takenHead}
 use Rattle.tables.specs.Entry.{emptyEntry, predictedEntry}

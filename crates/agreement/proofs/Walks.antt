@@ -8,7 +8,7 @@ use native.Mathlib.Omega.{arith}
 use native.Mathlib.Decide.{decLt}
 use lib.ListN.{length, getD, set, take, length-set}
 use lib.Seq.{getD-set-other, getD-set-same, set-out}
-use Rattle.reference.specs.Roles.{stores}
+use Rattle.execution.specs.Roles.{stores}
 use Rattle.reference.specs.Step.{State, state, firstSource, secondSource, destination, stepOf}
 use Rattle.tables.specs.Entry.{emptyEntry}
 use Rattle.tables.specs.declared.Entry.{Entry}

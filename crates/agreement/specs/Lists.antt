@@ -6,7 +6,7 @@ use mathlib.Core.List.{List, [], _∷_}
 use lib.Dec.{eqb}
 use lib.ListN.{replicate}
 use Rattle.isa.specs.Reads.{choose}
-use Rattle.reference.specs.Execute.{onward}
+use Rattle.execution.specs.Execute.{onward}
 use Rattle.reference.specs.Step.{State, state}
 use Rattle.tables.specs.declared.State.{State as Stage}
 use Rattle.tables.specs.declared.State.the-variants.{Waits, Issued, Completed}

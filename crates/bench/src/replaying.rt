@@ -5,7 +5,6 @@ ghost use Rattle.events.specs.Play.{playedOf};
 ghost use Rattle.bench.specs.Replay as Replay;
 use crate::Replayed;
 use events::Counts;
-use events::playing;
 use machine::Machine;
 use machine::setting;
 

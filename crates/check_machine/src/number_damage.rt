@@ -7,9 +7,9 @@ use crate::judging::in_range;
 use crate::judging::looked_at;
 use crate::judging::refused;
 use crate::samples::with_count;
+use execution::Stop;
 use machine::Machine;
 use machine::Setup;
-use reference::Stop;
 
 pub const NOTHING: u8 = 0;
 

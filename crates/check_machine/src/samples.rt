@@ -1,7 +1,7 @@
 // Entries as a machine may hold them, and machines with such entries.
+use execution::Stop;
 use isa::Instruction;
 use machine::Machine;
-use reference::Stop;
 use tables::Entry;
 use tables::Operand;
 use tables::State;

@@ -9,9 +9,9 @@ use borrow.Author.Tests.{eq-eqb, ne-eqb, leb-false}
 use lib.Dec.{eqb}
 use lib.ListN.{length, getD, set, take, drop, length-map}
 use Rattle.isa.specs.Reads.{choose}
-use Rattle.reference.specs.Memory.{stored}
+use Rattle.execution.specs.Memory.{stored}
 use Rattle.reference.specs.Step.{when, first}
-use Rattle.reference.specs.declared.Stop.{Stop}
+use Rattle.execution.specs.declared.Stop.{Stop}
 use Rattle.tables.specs.Table.{lookUp, storeUnder}
 use Rattle.tables.specs.FreeList.{freedHead, freedLink}
 use Rattle.tables.specs.Entry.{emptyEntry, isCompleted}

@@ -5,9 +5,9 @@ use mathlib.Core.List.{List, [], _∷_, _++_}
 use lib.Dec.{eqb}
 use lib.ListN.{take, drop}
 use Rattle.isa.specs.Reads.{choose}
-use Rattle.reference.specs.Memory.{stored}
+use Rattle.execution.specs.Memory.{stored}
 use Rattle.reference.specs.Step.{when, first}
-use Rattle.reference.specs.declared.Stop.{Stop}
+use Rattle.execution.specs.declared.Stop.{Stop}
 use Rattle.tables.specs.Table.{lookUp, storeUnder}
 use Rattle.tables.specs.FreeList.{freedHead, freedLink}
 use Rattle.tables.specs.Entry.{emptyEntry, isCompleted}

@@ -5,9 +5,9 @@ ghost use Prim.Native.Nat.{_≤_, _<_};
 ghost use Rattle.machine.specs.Range.{machineInRange};
 ghost use Rattle.machine.specs.Call as Call;
 ghost use Rattle.committing.specs.Commit as Commit;
+use execution::Stop;
 use machine::Answer;
 use machine::Machine;
-use reference::Stop;
 use tables::entries;
 use tables::free_list;
 use tables::maps;
@@ -94,7 +94,7 @@ pub fn commit_within(machine: Machine, data: &mut [u8]) -> Answer
         };
     }
     let i = e.instruction;
-    reference::store(i, data, e.first, e.second);
+    execution::store(i, data, e.first, e.second);
     Answer {
         machine: retired(machine),
         number: 0,

@@ -10,7 +10,7 @@ use lib.Dec.{leb, eqb}
 use lib.ListN.{length, getD, set}
 use Rattle.isa.specs.Reads.{choose}
 use Rattle.reference.specs.Step.{when, first}
-use Rattle.reference.specs.declared.Outcome.{Outcome}
+use Rattle.execution.specs.declared.Outcome.{Outcome}
 use Rattle.tables.specs.Table.{lookUp, storeUnder}
 use Rattle.tables.specs.FreeList.{takenHead, takenLink}
 use Rattle.tables.specs.Entry.{emptyEntry, isIssued, stoppedEntry, completedEntry, waitingEntry, predictedEntry, wakeEntry, sleepEntry, held}

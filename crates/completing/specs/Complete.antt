@@ -5,9 +5,9 @@ use mathlib.Core.List.{List, [], _∷_}
 use lib.Dec.{eqb}
 use lib.ListN.{getD, set}
 use Rattle.isa.specs.Reads.{choose}
-use Rattle.reference.specs.Execute.{executed}
+use Rattle.execution.specs.Execute.{executed}
 use Rattle.reference.specs.Step.{when, first}
-use Rattle.reference.specs.declared.Outcome.{Outcome}
+use Rattle.execution.specs.declared.Outcome.{Outcome}
 use Rattle.tables.specs.Table.{lookUp, storeUnder}
 use Rattle.tables.specs.FreeList.{takenHead, takenLink}
 use Rattle.tables.specs.Entry.{emptyEntry, isIssued, stoppedEntry, completedEntry, waitingEntry, predictedEntry, wakeEntry, sleepEntry, held}

@@ -6,9 +6,9 @@ ghost use Rattle.machine.specs.Range.{machineInRange};
 ghost use Rattle.machine.specs.Call as Call;
 ghost use Rattle.completing.specs.Complete as Complete;
 ghost use Rattle.tables.specs.Entry.{wakeEntry, sleepEntry};
+use execution::Outcome;
 use machine::Answer;
 use machine::Machine;
-use reference::Outcome;
 use tables::entries;
 use tables::free_list;
 use tables::maps;
@@ -70,7 +70,7 @@ fn outcome_at(machine: Machine, position: usize) -> Outcome
     let s = machine.setup;
     let e = machine.entries[position];
     let i = e.instruction;
-    reference::execute(s.bytes as usize, i, e.address, e.first, e.second)
+    execution::execute(s.bytes as usize, i, e.address, e.first, e.second)
 }
 
 // whether completing this entry takes a register from another: it needs one, and none is free

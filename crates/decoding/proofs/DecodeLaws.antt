@@ -8,7 +8,7 @@ use lib.Dec.{leb, eqb}
 use Rattle.isa.specs.Reads.{choose, none}
 use Rattle.isa.specs.declared.Instruction.{Instruction}
 use Rattle.reference.specs.Fetch.{FetchNumbers, noInstruction, fetchAt}
-use Rattle.reference.specs.Roles.{causeAtOnce}
+use Rattle.execution.specs.Roles.{causeAtOnce}
 use Rattle.reference.specs.Step.{when, first}
 use Rattle.tables.specs.Table.{lookUp, storeUnder}
 use Rattle.tables.specs.declared.Entry.{Entry}

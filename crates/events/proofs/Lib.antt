@@ -1,5 +1,3 @@
 -- Laws of the events.
 pub mod EventLaws
-pub mod PlayLaws
-pub mod WayLaws
 pub mod Laws

@@ -3,4 +3,3 @@ pub mod Counts
 pub mod Numbers
 pub mod Play
 pub mod Statement
-pub mod Ways

@@ -1,8 +1,6 @@
 // The events of a schedule, made one after the other on a machine, and counted.
 pub mod counting;
 pub mod making;
-pub mod playing;
-pub mod ways;
 
 use machine::Machine;
 

@@ -8,9 +8,9 @@ use native.Mathlib.Omega.{arith}
 use borrow.Author.Tests.{leb-false}
 use lib.Dec.{leb, eqb}
 use lib.ListN.{getD}
-use Rattle.reference.specs.Roles.{loads, stores}
+use Rattle.execution.specs.Roles.{loads, stores}
 use Rattle.reference.specs.Step.{when, first}
-use Rattle.reference.specs.Memory.{secondValue}
+use Rattle.execution.specs.Memory.{secondValue}
 use Rattle.tables.specs.Operand.{isReady, valueOf}
 use Rattle.tables.specs.Entry.{emptyEntry, isWaiting, issuedEntry}
 use Rattle.tables.specs.declared.Entry.{Entry}

@@ -3,8 +3,8 @@ use Prim.Native.Nat.{ℕ, zero, suc}
 use mathlib.Core.Bool.{Bool, true, false, not, _&&_, _||_}
 use mathlib.Core.List.{List, [], _∷_}
 use lib.ListN.{getD}
-use Rattle.reference.specs.Memory.{secondValue}
-use Rattle.reference.specs.Roles.{loads, stores}
+use Rattle.execution.specs.Memory.{secondValue}
+use Rattle.execution.specs.Roles.{loads, stores}
 use Rattle.reference.specs.Step.{when, first}
 use Rattle.tables.specs.Operand.{isReady, valueOf}
 use Rattle.tables.specs.Entry.{emptyEntry, isWaiting, issuedEntry}

@@ -4,9 +4,9 @@ ghost use mathlib.Core.Bool.{true};
 ghost use Prim.Native.Nat.{_≤_, _<_};
 ghost use Rattle.machine.specs.Range.{machineInRange};
 ghost use Rattle.issuing.specs.Issue as Issue;
+use execution::roles;
 use machine::Answer;
 use machine::Machine;
-use reference::roles;
 use tables::entries;
 use tables::operands;
 
@@ -65,7 +65,7 @@ fn issued(mut machine: Machine, data: &[u8], position: usize) -> Machine
     let right = e.right;
     let first = operands::value_of(&machine.values, left);
     let operand = operands::value_of(&machine.values, right);
-    let second = reference::second_value(i, data, first, operand);
+    let second = execution::second_value(i, data, first, operand);
     let read = entries::issued(e, first, second);
     machine.entries[position] = read;
     machine

@@ -3,7 +3,7 @@ use Prim.Native.Nat.{ℕ, zero, suc, _+_}
 use mathlib.Core.Bool.{Bool, true, false}
 use mathlib.Core.List.{List, [], _∷_, _++_}
 use lib.ListN.{replicate}
-use Rattle.reference.specs.Execute.{stop}
+use Rattle.execution.specs.Execute.{stop}
 use Rattle.tables.specs.Entry.{emptyEntry}
 use Rattle.machine.specs.declared.Setup.{Setup}
 use Rattle.machine.specs.declared.Machine.{Machine}

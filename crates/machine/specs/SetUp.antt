@@ -5,7 +5,7 @@ use mathlib.Core.List.{List, [], _∷_, _++_}
 use lib.Dec.{leb, ltb, eqb}
 use lib.ListN.{replicate}
 use Rattle.isa.specs.Reads.{choose}
-use Rattle.reference.specs.Execute.{stop}
+use Rattle.execution.specs.Execute.{stop}
 use Rattle.reference.specs.Step.{when, first, programFits, dataFits}
 use Rattle.tables.specs.Entry.{emptyEntry}
 use Rattle.machine.specs.Machine.{namesOf, tabulate, setupOf, zeroMachine}

@@ -5,7 +5,7 @@ pub mod range;
 pub mod reporting;
 pub mod setting;
 
-use reference::Stop;
+use execution::Stop;
 use tables::Entry;
 
 // Window W, registers N, and the lengths of program and data.

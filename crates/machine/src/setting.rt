@@ -6,7 +6,7 @@ ghost use Rattle.machine.specs.SetUp.{risingNext, risingLink, freshMachi
 use crate::Answer;
 use crate::Machine;
 use crate::Setup;
-use reference::Stop;
+use execution::Stop;
 use tables::entries;
 
 // the number after k in a pool of 32 to last

@@ -14,9 +14,9 @@ use Rattle.isa.specs.declared.Instruction.{Instruction}
 use Rattle.isa.proofs.Accepted.{Accepted}
 use Rattle.isa.proofs.Ranges.{read-accepted}
 use Rattle.isa.proofs.ReadLaws.{Small, legal-small}
-use Rattle.reference.specs.Memory.{accessible}
+use Rattle.execution.specs.Memory.{accessible}
 use Rattle.reference.specs.Fetch.{FetchNumbers, noInstruction, fetchNumbers, ofReading, fetchAt}
-use Rattle.reference.specs.declared.Stop.{Stop}
+use Rattle.execution.specs.declared.Stop.{Stop}
 use Rattle.reference.specs.declared.Fetching.{Fetching}
 use Rattle.reference.specs.declared.Fetching.the-variants.{Found, Stopped}
 

@@ -9,16 +9,16 @@ use lib.Seq.{getD-set-other}
 use borrow.Author.Tests.{eq-eqb}
 use Rattle.isa.specs.Reads.{choose}
 use Rattle.isa.specs.declared.Instruction.{Instruction}
-use Rattle.reference.specs.Actions.{actionOf}
-use Rattle.reference.specs.Memory.{effective, stored}
-use Rattle.reference.specs.Execute.{stop, executed}
+use Rattle.execution.specs.Actions.{actionOf}
+use Rattle.execution.specs.Memory.{effective, stored}
+use Rattle.execution.specs.Execute.{stop, executed}
 use Rattle.reference.specs.Fetch.{fetchAt}
 use Rattle.reference.specs.Step.{State, Step, reached, destination, writeRegister, stoppedAt, settled, firstOf, secondOf, stepWith, stepOf}
 use Rattle.reference.specs.Statement.{Statement}
-use Rattle.reference.specs.declared.Outcome.{Outcome}
+use Rattle.execution.specs.declared.Outcome.{Outcome}
 use Rattle.reference.proofs.FetchLaws.{fetched-small}
-use Rattle.reference.proofs.MemoryLaws as Memory
-use Rattle.reference.proofs.OutcomeLaws.{executed-proper}
+use Rattle.execution.proofs.MemoryLaws as Memory
+use Rattle.execution.proofs.OutcomeLaws.{executed-proper}
 use Rattle.reference.proofs.RunLaws.{composed}
 use Rattle.reference.proofs.StepLaws.{choose-either, write-other, write-zero, step-kept}
 

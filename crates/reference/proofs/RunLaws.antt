@@ -8,11 +8,11 @@ use native.Mathlib.Omega.{arith}
 use borrow.Author.Tests.{eq-eqb, ne-eqb, eqb-true, eqb-false}
 use lib.Dec.{eqb}
 use Rattle.isa.specs.Reads.{choose}
-use Rattle.reference.specs.Execute.{stop}
+use Rattle.execution.specs.Execute.{stop}
 use Rattle.reference.specs.Step.{State, Step, state, reached, stepOf, lengthRefusal}
 use Rattle.reference.specs.Run.{Run, ended, after, runOf, RunAnswer, runAnswer, ranOf}
 use Rattle.reference.specs.Statement.{continued}
-use Rattle.reference.specs.declared.Stop.{Stop}
+use Rattle.execution.specs.declared.Stop.{Stop}
 
 after-after : (k m : ℕ) (r : Run) → after (k + m) r ≡ after k (after m r)
 after-after k m r = ap (λ (n : ℕ). record { state = r .state; steps = n; stop = r .stop }) (add-assoc k m (r .steps))

@@ -10,14 +10,14 @@ use lib.ListN.{length, getD, set, length-set}
 use lib.Seq.{getD-set-other}
 use Rattle.isa.specs.Reads.{choose}
 use Rattle.isa.specs.declared.Instruction.{Instruction}
-use Rattle.reference.specs.Memory.{secondValue, stored}
-use Rattle.reference.specs.Execute.{stop, executed}
+use Rattle.execution.specs.Memory.{secondValue, stored}
+use Rattle.execution.specs.Execute.{stop, executed}
 use Rattle.reference.specs.Fetch.{FetchNumbers, fetchNumbers, fetchAt}
 use Rattle.reference.specs.Step.{State, Step, state, reached, firstSource, secondSource, destination, readRegister, writeRegister, stoppedAt, settled, firstOf, secondOf, stepWith, stepFetched, stepOf, lengthRefusal, StepAnswer, stepAnswer, steppedOf}
-use Rattle.reference.specs.declared.Stop.{Stop}
-use Rattle.reference.specs.declared.Outcome.{Outcome}
+use Rattle.execution.specs.declared.Stop.{Stop}
+use Rattle.execution.specs.declared.Outcome.{Outcome}
 use Rattle.reference.specs.declared.Fetching.the-variants.{Found, Stopped}
-use Rattle.reference.proofs.OutcomeLaws.{executed-proper}
+use Rattle.execution.proofs.OutcomeLaws.{executed-proper}
 
 module _ (s : State) (i : Instruction) (memory : List ℕ) (o : Outcome) where
   settled-made : o .stop .cause ≡ 0 → settled s i memory o ≡ reached (writeRegister (s .registers) (destination i) (o .result)) (o .next) memory (o .stop)

@@ -3,9 +3,9 @@ use Prim.Native.Nat.{ℕ, zero, suc, _+_}
 use mathlib.Core.List.{List}
 use lib.Dec.{eqb}
 use Rattle.isa.specs.Reads.{choose}
-use Rattle.reference.specs.Execute.{stop}
+use Rattle.execution.specs.Execute.{stop}
 use Rattle.reference.specs.Step.{State, Step, stepOf, lengthRefusal}
-use Rattle.reference.specs.declared.Stop.{Stop}
+use Rattle.execution.specs.declared.Stop.{Stop}
 use Rattle.reference.specs.declared.Ran.{Ran}
 
 -- the state after a run, the steps made and why it ended early

@@ -7,8 +7,8 @@ use lib.Dec.{eqb}
 use lib.ListN.{length, getD}
 use Rattle.isa.specs.Reads.{choose}
 use Rattle.isa.specs.declared.Instruction.{Instruction}
-use Rattle.reference.specs.Memory.{stored}
-use Rattle.reference.specs.Execute.{executed}
+use Rattle.execution.specs.Memory.{stored}
+use Rattle.execution.specs.Execute.{executed}
 use Rattle.reference.specs.Fetch.{fetchAt}
 use Rattle.reference.specs.Step.{State, firstSource, secondSource, destination, stepWith, stepOf}
 use Rattle.reference.specs.Run.{Run, after, runOf}

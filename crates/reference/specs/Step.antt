@@ -6,11 +6,11 @@ use lib.Dec.{leb, eqb}
 use lib.ListN.{length, getD, set}
 use Rattle.isa.specs.Reads.{choose}
 use Rattle.isa.specs.declared.Instruction.{Instruction}
-use Rattle.reference.specs.Memory.{secondValue, stored}
-use Rattle.reference.specs.Execute.{stop, executed}
+use Rattle.execution.specs.Memory.{secondValue, stored}
+use Rattle.execution.specs.Execute.{stop, executed}
 use Rattle.reference.specs.Fetch.{FetchNumbers, fetchAt}
-use Rattle.reference.specs.declared.Stop.{Stop}
-use Rattle.reference.specs.declared.Outcome.{Outcome}
+use Rattle.execution.specs.declared.Stop.{Stop}
+use Rattle.execution.specs.declared.Outcome.{Outcome}
 use Rattle.reference.specs.declared.Stepped.{Stepped}
 
 pub record State : Type 0 where

@@ -1,8 +1,8 @@
 ghost use mathlib.Core.Path.{_≡_};
 ghost use Rattle.reference.specs.Fetch.{fetchNumbers, fetchAt};
 use crate::Fetching;
-use crate::Stop;
-use crate::memory;
+use execution::Stop;
+use execution::memory;
 use isa::Reading;
 
 // The instruction at an address, or a stop: 4 outside the program or not a multiple of 4, 1 illegal.

@@ -2,9 +2,9 @@ ghost use mathlib.Core.Path.{_≡_};
 ghost use Rattle.reference.specs.Run as Run;
 ghost use Rattle.reference.specs.Step as Step;
 use crate::Ran;
-use crate::Stop;
 use crate::lengths;
 use crate::stepping;
+use execution::Stop;
 
 // up to n steps, lengths unseen
 fn proceed(program: &[u8], data: &mut [u8], registers: [u32; 32], address: u32, n: u16) -> Ran

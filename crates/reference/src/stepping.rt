@@ -5,14 +5,14 @@ ghost use Rattle.reference.specs.Step as Step;
 use crate::Advance;
 use crate::Fetching;
 use crate::Stepped;
-use crate::Stop;
-use crate::actions;
-use crate::execution;
 use crate::lengths;
-use crate::memory;
 use crate::operands;
 use crate::program;
 use crate::registers;
+use execution::Stop;
+use execution::actions;
+use execution::executing;
+use execution::memory;
 use isa::Instruction;
 
 // one instruction on lent registers and data; a stop leaves them. The action is looked up once, since an indexed const table is
@@ -29,7 +29,7 @@ fn make(i: Instruction, data: &mut [u8], registers: &mut [u32; 32], address: u32
     let operand = registers::read(registers, operands::second_source(i));
     let at = word::add(first, constant);
     let second = memory::second_by(class, kind, data, at, operand);
-    let outcome = execution::perform(class, kind, data.len(), address, constant, first, second);
+    let outcome = executing::perform(class, kind, data.len(), address, constant, first, second);
     let stop = outcome.stop;
     if stop.cause == 0 {
         memory::store_by(class, kind, data, at, second);

@@ -10,8 +10,8 @@ use lib.ListN.{List·getD-eq-default}
 use mir.Syntax.{w32}
 use mir.Val.{ofZ, SFits}
 use Rattle.isa.specs.declared.Instruction.{Instruction}
-use Rattle.reference.specs.Actions.{Action, Stops, actions}
-use Rattle.reference.specs.Memory.{effective, endsWithinBy, storeEndsWithin}
+use Rattle.execution.specs.Actions.{Action, Stops, actions}
+use Rattle.execution.specs.Memory.{effective, endsWithinBy, storeEndsWithin}
 use Rattle.tables.specs.Ranges.{isZero}
 
 -- a number is 0 where its word is

@@ -4,8 +4,8 @@ use mathlib.Core.Bool.{Bool, true, false}
 use mathlib.Core.List.{List}
 use Rattle.isa.specs.Reads.{none}
 use Rattle.isa.specs.declared.Instruction.{Instruction}
-use Rattle.reference.specs.Execute.{stop}
-use Rattle.reference.specs.declared.Stop.{Stop}
+use Rattle.execution.specs.Execute.{stop}
+use Rattle.execution.specs.declared.Stop.{Stop}
 use Rattle.tables.specs.Table.{lookUp}
 use Rattle.tables.specs.Operand.{wake, sleep}
 use Rattle.tables.specs.declared.Operand.{Operand}

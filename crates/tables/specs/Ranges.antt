@@ -5,7 +5,7 @@ use lib.Dec.{leb, eqb}
 use lib.IntN.{ℤ, pos, negsuc}
 use Rattle.isa.specs.Encodes.{accepted}
 use Rattle.isa.specs.declared.Instruction.{Instruction}
-use Rattle.reference.specs.Memory.{storeEndsWithin}
+use Rattle.execution.specs.Memory.{storeEndsWithin}
 use Rattle.tables.specs.Entry.{isCompleted}
 use Rattle.tables.specs.declared.Operand.{Operand}
 use Rattle.tables.specs.declared.Operand.the-variants.{Zero, Waiting, Ready}

@@ -8,8 +8,8 @@ use crate::Operand;
 use crate::State;
 use crate::maps;
 use crate::operands;
+use execution::Stop;
 use isa::Instruction;
-use reference::Stop;
 
 // a place past the last entry
 pub fn empty() -> Entry

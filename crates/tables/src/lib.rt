@@ -5,8 +5,8 @@ pub mod maps;
 pub mod operands;
 pub mod ranges;
 
+use execution::Stop;
 use isa::Instruction;
-use reference::Stop;
 
 // An operand is zero, waiting on a name, or ready with a name and a register.
 pub enum Operand {

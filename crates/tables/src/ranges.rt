@@ -1,6 +1,6 @@
 // What refusal 5 looks at in an entry. Tests are joined without early exit.
 ghost use mathlib.Core.Path.{_≡_};
-ghost use Rattle.reference.specs.Memory.{storeEndsWithin};
+ghost use Rattle.execution.specs.Memory.{storeEndsWithin};
 ghost use Rattle.tables.specs.Entry as Entries;
 ghost use Rattle.tables.specs.Ranges as Ranges;
 use crate::Entry;
@@ -56,7 +56,7 @@ fn ends_within(bytes: u16, i: Instruction, first: u32) -> bool
     ensures { λ r. ⌜ r ≡ storeEndsWithin bytes i first ⌝ }
 {
     if i.operation < 40 {
-        reference::memory::store_ends_within(bytes as usize, i, first)
+        execution::memory::store_ends_within(bytes as usize, i, first)
     } else {
         true
     }

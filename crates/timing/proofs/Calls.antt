@@ -5,7 +5,7 @@ use mathlib.Core.List.{List}
 use native.Mathlib.Nat.{add-assoc}
 use borrow.Author.Tests.{eq-eqb, ne-eqb}
 use lib.ListN.{length}
-use Rattle.reference.specs.Execute.{stop}
+use Rattle.execution.specs.Execute.{stop}
 use Rattle.reference.specs.Step.{State, state, lengthsRefusal, lengthRefusal}
 use Rattle.reference.specs.Run.{Run, ended, after, runOf, RunAnswer, runAnswer, ranOf}
 use Rattle.reference.specs.declared.Ran.{Ran}

@@ -4,7 +4,7 @@ use mathlib.Core.List.{List, [], _∷_}
 use lib.Dec.{eqb, leb}
 use lib.ListN.{length, replicate}
 use Rattle.isa.specs.Reads.{choose, operationOf}
-use Rattle.reference.specs.Execute.{stop}
+use Rattle.execution.specs.Execute.{stop}
 use Rattle.reference.specs.Step.{State, state, lengthRefusal}
 use Rattle.reference.specs.Run.{Run, runOf, ended}
 use Rattle.timing.specs.declared.Timed.{Timed}

@@ -4,7 +4,7 @@ use mathlib.Core.Bool.{false}
 use mathlib.Core.List.{List}
 use lib.ListN.{set, replicate}
 use Rattle.isa.specs.Reads.{none}
-use Rattle.reference.specs.Execute.{stop}
+use Rattle.execution.specs.Execute.{stop}
 use Rattle.tables.specs.Entry.{emptyEntry}
 use Rattle.tables.specs.declared.Operand.the-variants.{Waiting}
 use Rattle.tables.specs.declared.State.the-variants.{Completed}

@@ -7,7 +7,7 @@ use borrow.Author.Tests.{eqb-true, eqb-false, not-true}
 use lib.Dec.{eqb}
 use Rattle.laws.proofs.Bools.{and-left, and-right}
 use Rattle.isa.specs.Reads.{readOf}
-use Rattle.reference.specs.Execute.{compute, executed}
+use Rattle.execution.specs.Execute.{compute, executed}
 use Rattle.reference.specs.Step.{stepWith}
 use Rattle.agreement.specs.Lists.{Call}
 use Rattle.worked.specs.Calls.{twoAddi, after, further, answers}

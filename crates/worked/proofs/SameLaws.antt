@@ -9,9 +9,9 @@ use lib.IntN.{ℤ, pos, negsuc}
 use Rattle.laws.proofs.Bools.{impossible, and-left, and-right}
 use Rattle.isa.specs.Reads.{Numbers, instruction}
 use Rattle.isa.specs.declared.Instruction.{Instruction}
-use Rattle.reference.specs.Execute.{stop}
+use Rattle.execution.specs.Execute.{stop}
 use Rattle.reference.specs.Step.{State, Step, state}
-use Rattle.reference.specs.declared.Outcome.{Outcome}
+use Rattle.execution.specs.declared.Outcome.{Outcome}
 use Rattle.worked.specs.Same.{sameInteger, sameList, sameInstruction, sameReading, sameOutcome, sameState, sameStep}
 
 -- both of two tests hold

@@ -8,10 +8,10 @@ use Rattle.word.specs.Signed.{extend}
 use Rattle.word.specs.Bytes.{number, put}
 use Rattle.isa.specs.Reads.{fixedPart, operationFrom, operationOf, constantOf, fieldsOf, readOf}
 use Rattle.isa.specs.Encodes.{within, accepted, constantPart, wordOf}
-use Rattle.reference.specs.Memory.{accessible, secondBy, storedBy, endsWithinBy}
-use Rattle.reference.specs.Execute.{executedBy}
+use Rattle.execution.specs.Memory.{accessible, secondBy, storedBy, endsWithinBy}
+use Rattle.execution.specs.Execute.{executedBy}
 use Rattle.reference.specs.Fetch.{fetchAt}
-use Rattle.reference.specs.Roles.{loadsBy, storesBy, causeBy, predictedBy}
+use Rattle.execution.specs.Roles.{loadsBy, storesBy, causeBy, predictedBy}
 use Rattle.reference.specs.Step.{readRegister, writeRegister, stepWith, first}
 use Rattle.tables.specs.Table.{lookUnder, storeUnder}
 use Rattle.machine.specs.Machine.{tabulateFrom}

@@ -7,10 +7,10 @@ use lib.Dec.{eqb}
 use lib.ListN.{replicate}
 use Rattle.isa.specs.Reads.{Numbers, readOf}
 use Rattle.isa.specs.declared.Instruction.{Instruction}
-use Rattle.reference.specs.Actions.{Alu}
-use Rattle.reference.specs.Execute.{compute, executed}
+use Rattle.execution.specs.Actions.{Alu}
+use Rattle.execution.specs.Execute.{compute, executed}
 use Rattle.reference.specs.Step.{State, Step, state, stepWith}
-use Rattle.reference.specs.declared.Outcome.{Outcome}
+use Rattle.execution.specs.declared.Outcome.{Outcome}
 use Rattle.agreement.specs.Lists.{Call, World}
 use Rattle.worked.specs.Same.{sameList, sameReading, sameOutcome, sameStep}
 use Rattle.worked.specs.Calls.{after, further, answers}

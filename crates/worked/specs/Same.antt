@@ -7,7 +7,7 @@ use lib.IntN.{ℤ, pos, negsuc}
 use Rattle.isa.specs.Reads.{Numbers}
 use Rattle.isa.specs.declared.Instruction.{Instruction}
 use Rattle.reference.specs.Step.{State, Step}
-use Rattle.reference.specs.declared.Outcome.{Outcome}
+use Rattle.execution.specs.declared.Outcome.{Outcome}
 
 abbrev pub sameInteger : ℤ → ℤ → Bool
 sameInteger (pos a) (pos b) = eqb a b

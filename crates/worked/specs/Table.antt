@@ -7,8 +7,8 @@ use lib.IntN.{pos}
 use lib.ListN.{replicate, set}
 use Rattle.isa.specs.Reads.{instruction, legal, illegal}
 use Rattle.isa.specs.Encodes.{minus}
-use Rattle.reference.specs.Actions.{ADD, SLT, SLTU, SRL, SRA}
-use Rattle.reference.specs.Execute.{stop, goes, stops}
+use Rattle.execution.specs.Actions.{ADD, SLT, SLTU, SRL, SRA}
+use Rattle.execution.specs.Execute.{stop, goes, stops}
 use Rattle.reference.specs.Step.{Step, reached}
 use Rattle.agreement.specs.Lists.{complete}
 use Rattle.worked.specs.Calls.{registerAt, destinationAt, stateAt, freeRegister, nextAddress, bothIssued, youngerFirst, robbing, committing, again, olderFirst}

@@ -4,8 +4,8 @@ use lib.IntN.{pos}
 use lib.ListN.{replicate}
 use Rattle.isa.specs.Reads.{instruction, legal, illegal, readOf}
 use Rattle.isa.specs.Encodes.{minus}
-use Rattle.reference.specs.Actions.{ADD, SLT, SLTU, SRL, SRA}
-use Rattle.reference.specs.Execute.{goes, stops, compute, executed}
+use Rattle.execution.specs.Actions.{ADD, SLT, SLTU, SRL, SRA}
+use Rattle.execution.specs.Execute.{goes, stops, compute, executed}
 use Rattle.reference.specs.Step.{stepWith}
 use Rattle.agreement.specs.Lists.{complete}
 use Rattle.worked.specs.Calls.{after, further, answers, registerAt, destinationAt, stateAt, freeRegister, nextAddress, bothIssued, youngerFirst, robbing, committing, again, olderFirst}

@@ -3,7 +3,7 @@ use mathlib.Core.Bool.{true, false, not, _||_}
 use native.Mathlib.Omega.{arith}
 use lib.Dec.{eqb}
 use borrow.Author.Tests.{eq-eqb, ne-eqb, le-leb, lt-leb, not-true, not-false}
-use Rattle.reference.specs.declared.Outcome.{Outcome}
+use Rattle.execution.specs.declared.Outcome.{Outcome}
 use Rattle.machine.specs.Call.{entryAt}
 use Rattle.completing.specs.Complete.{outcomeAt, victimOf}
 use Rattle.machine.proofs.ReportLaws.{in-range-count}

@@ -2,7 +2,7 @@ use mathlib.Core.Path.{_≡_, ap}
 use mathlib.Core.Bool.{not, _&&_}
 use native.Mathlib.Omega.{arith}
 use lib.Dec.{eqb}
-use Rattle.reference.specs.declared.Outcome.{Outcome}
+use Rattle.execution.specs.declared.Outcome.{Outcome}
 use Rattle.machine.specs.Call.{entryAt}
 use Rattle.machine.proofs.ReportLaws.{in-range-count}
 use borrow.Author.Needs.{needs}

@@ -4,7 +4,7 @@ use Prim.Native.Nat.{ℕ, _-_, _≤_}
 use mathlib.Core.Bool.{Bool, _||_}
 use mathlib.Core.Path.{_≡_, refl, sym, ap, _∙_}
 use native.Mathlib.Omega.{arith}
-use Rattle.reference.specs.Roles.{stores}
+use Rattle.execution.specs.Roles.{stores}
 use Rattle.issuing.specs.Issue.{storeBelow}
 use Rattle.machine.proofs.ReportLaws.{in-range-count}
 use Rattle.machine.proofs.OperationLaws.{in-range-operation}

@@ -5,7 +5,7 @@ use denote.Ref.{now}
 use Prim.Native.Nat.{ℕ}
 use Rattle.isa.specs.Reads.{numbersOf, readOf}
 use Rattle.reference.proofs.FetchLaws.{fetch-outside, fetch-illegal, fetch-legal}
-use Rattle.reference.proofs.MemoryLaws.{access-room}
+use Rattle.execution.proofs.MemoryLaws.{access-room}
 use borrow.Author.Needs.{needs}
 use Rattle.reference.proofs.program.fetch.Statement.{statement}
 use Rattle.reference.proofs.program.fetch.Tie as tie

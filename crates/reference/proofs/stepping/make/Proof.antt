@@ -8,12 +8,12 @@ use mir.Val.{ofZ}
 use mir.ValLaws.{toZ-ofZ}
 use Rattle.word.specs.Arithmetic.{sum}
 use Rattle.word.specs.Bytes.{byteOf}
-use Rattle.reference.specs.Actions.{Action, actionOf}
-use Rattle.reference.specs.Codes.{actionAt}
-use Rattle.reference.specs.Memory.{effective, secondBy, secondValue, storedBy, stored}
-use Rattle.reference.specs.Execute.{executedBy, executed}
+use Rattle.execution.specs.Actions.{Action, actionOf}
+use Rattle.execution.specs.Codes.{actionAt}
+use Rattle.execution.specs.Memory.{effective, secondBy, secondValue, storedBy, stored}
+use Rattle.execution.specs.Execute.{executedBy, executed}
 use Rattle.reference.specs.Step.{state, firstSource, secondSource, readRegister, writeRegister}
-use Rattle.reference.proofs.ActionLaws.{action-of, sized-read}
+use Rattle.execution.proofs.ActionLaws.{action-of, sized-read}
 use Rattle.reference.proofs.StepLaws.{step-made, step-not-made}
 use borrow.Author.Needs.{needs}
 use Rattle.reference.proofs.stepping.make.Statement.{statement}

@@ -1,0 +1,112 @@
+ghost use mathlib.Core.Path.{_≡_};
+ghost use Prim.Native.Nat.{_+_, _<_, _≤_};
+ghost use lib.ListN.{length};
+ghost use Rattle.word.specs.Bytes.{byteOf};
+ghost use Rattle.execution.specs.Actions.{LoadsSigned, LoadsUnsigned};
+ghost use Rattle.execution.specs.Codes.{actionAt, Sized};
+ghost use Rattle.execution.specs.Memory as Memory;
+use crate::actions;
+use isa::Instruction;
+
+// whether the access is aligned and stays within the length
+pub fn accessible(length: usize, address: u32, size: u8) -> bool
+    requires { ⌜ 0 < size ⌝ }
+    ensures { λ r. ⌜ r ≡ Memory.accessible length address size ⌝ }
+{
+    let at = address as usize;
+    let bytes = size as usize;
+    (at % bytes == 0) & (at + bytes <= length)
+}
+
+// the address that a load or a store goes to
+fn effective(i: Instruction, first: u32) -> u32
+    ensures { λ r. ⌜ r ≡ Memory.effective i first ⌝ }
+{
+    word::add(first, word::to_word(i.constant))
+}
+
+// what a signed load finds, or 0 where it stops
+fn load_signed(data: &[u8], address: u32, size: u8) -> u32
+    requires { ⌜ (0 < size) × (size < 4) ⌝ }
+    ensures { λ r. ⌜ r ≡ Memory.secondBy (LoadsSigned size) (length (now («data» .entry))) address 0 (byteOf (now («data» .entry))) ⌝ }
+{
+    if !accessible(data.len(), address, size) {
+        return 0;
+    }
+    let value = word::load(data, address as usize, size as usize);
+    let half = 1u32 << (8 * (size as u32) - 1);
+    word::to_word(word::extend(half, value))
+}
+
+// what an unsigned load finds, or 0 where it stops
+fn load_unsigned(data: &[u8], address: u32, size: u8) -> u32
+    requires { ⌜ (0 < size) × (size ≤ 4) ⌝ }
+    ensures { λ r. ⌜ r ≡ Memory.secondBy (LoadsUnsigned size) (length (now («data» .entry))) address 0 (byteOf (now («data» .entry))) ⌝ }
+{
+    if !accessible(data.len(), address, size) {
+        return 0;
+    }
+    word::load(data, address as usize, size as usize)
+}
+
+// the second value of an action: what a load finds in the data, else the operand's
+pub fn second_by(class: u8, size: u8, data: &[u8], address: u32, second: u32) -> u32
+    requires { ⌜ Sized class size ⌝ }
+    ensures { λ r. ⌜ r ≡ Memory.secondBy (actionAt class size) (length (now («data» .entry))) address second (byteOf (now («data» .entry))) ⌝ }
+{
+    if class == 8 {
+        return load_signed(data, address, size);
+    }
+    if class == 9 {
+        return load_unsigned(data, address, size);
+    }
+    second
+}
+
+// The second value that an instruction reads.
+pub fn second_value(i: Instruction, data: &[u8], first: u32, second: u32) -> u32
+    requires { ⌜ i .operation < 40 ⌝ }
+    ensures { λ r. ⌜ r ≡ Memory.secondValue i first second (now («data» .entry)) ⌝ }
+{
+    let operation = i.operation as usize;
+    let class = actions::class(operation);
+    let size = actions::kind(operation);
+    second_by(class, size, data, effective(i, first), second)
+}
+
+// the data after an action: a store writes them, others leave them
+pub fn store_by(class: u8, size: u8, data: &mut [u8], address: u32, second: u32)
+    requires { ⌜ Sized class size ⌝ }
+    ensures { λ r. ⌜ now («data» .exit) ≡ Memory.storedBy (actionAt class size) address second (now («data» .entry)) ⌝ }
+{
+    if class == 10 {
+        if accessible(data.len(), address, size) {
+            word::store(data, address as usize, size as usize, second);
+        }
+    }
+}
+
+// The data after a store; other instructions leave them.
+pub fn store(i: Instruction, data: &mut [u8], first: u32, second: u32)
+    requires { ⌜ i .operation < 40 ⌝ }
+    ensures { λ r. ⌜ now («data» .exit) ≡ Memory.stored i first second (now («data» .entry)) ⌝ }
+{
+    let operation = i.operation as usize;
+    let class = actions::class(operation);
+    let size = actions::kind(operation);
+    store_by(class, size, data, effective(i, first), second);
+}
+
+// whether a store's bytes stay within the length; other instructions have none
+pub fn store_ends_within(length: usize, i: Instruction, first: u32) -> bool
+    requires { ⌜ i .operation < 40 ⌝ }
+    ensures { λ r. ⌜ r ≡ Memory.storeEndsWithin length i first ⌝ }
+{
+    let operation = i.operation as usize;
+    if actions::class(operation) == 10 {
+        let size = actions::kind(operation);
+        let address = effective(i, first);
+        return address as usize + size as usize <= length;
+    }
+    true
+}

@@ -1,0 +1,3 @@
+-- Laws of the loop and its ways.
+pub mod PlayLaws
+pub mod WayLaws

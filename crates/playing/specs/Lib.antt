@@ -1,0 +1,2 @@
+-- What the ways of the loop cite.
+pub mod Ways
