@@ -1,0 +1,71 @@
+"""Copies of the repository with edits in them, and what the test programs say of such a copy."""
+import os
+import re
+import shutil
+import subprocess
+
+ROOT = os.path.dirname(os.path.dirname(os.path.abspath(__file__)))
+
+
+def column(*numbers):
+    """Entries of a table, as the formatter sets them."""
+    return "".join("    %d,\n" % number for number in numbers)
+
+
+def read(path):
+    with open(path) as file:
+        return file.read()
+
+
+def write(path, text):
+    with open(path, "w") as file:
+        file.write(text)
+
+
+def copied(folder, programs):
+    """A copy of the crates in which the outputs of these programs end before the first count of differences, so that
+    `rt try` shows what they wrote from there on."""
+    shutil.copy(os.path.join(ROOT, "crates.txt"), folder)
+    shutil.copytree(os.path.join(ROOT, "crates"), os.path.join(folder, "crates"))
+    for program in programs:
+        path = os.path.join(folder, "crates", program, "stdout")
+        write(path, read(path).split("differ ")[0] + "?")
+
+
+def edited(folder, edits):
+    """Makes the edits, and hands back what the files held before. An edit is a file below crates, the old text and the
+    new one, and how often the old text occurs, if not once. With None as old text the file gets the new one, or goes."""
+    before = {}
+    for name, old, new, *times in edits:
+        path = os.path.join(folder, "crates", name)
+        text = read(path)
+        before.setdefault(path, text)
+        if old is None and new is None:
+            os.remove(path)
+        elif old is None:
+            write(path, new)
+        elif [text.count(old)] == (times or [1]):
+            write(path, text.replace(old, new))
+        else:
+            raise SystemExit("%s has %d times: %s" % (name, text.count(old), old))
+    return before
+
+
+def restored(before):
+    for path, text in before.items():
+        write(path, text)
+
+
+def run(folder, *words):
+    """What a command says."""
+    done = subprocess.run(words, cwd=folder, capture_output=True, text=True)
+    return done.stdout + done.stderr
+
+
+def differences(folder, program):
+    """The numbers after `differ` in what the program writes, compiled and without a proof."""
+    said = run(folder, "rt", "try", program)
+    found = re.search(r'-O3 ended.*\n.*found "(.*)"', said)
+    if not found:
+        raise SystemExit("%s did not end:\n%s" % (program, said))
+    return [int(number) for number in re.findall(r"differ (\d+)", found[1])]
