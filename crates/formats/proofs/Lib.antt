@@ -5,6 +5,5 @@ pub mod ChainLaws
 pub mod Events
 pub mod Unset
 pub mod Bound
-pub mod Passes
 pub mod ResultLaws
 pub mod Laws
