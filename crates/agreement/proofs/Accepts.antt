@@ -16,7 +16,8 @@ use Rattle.tables.specs.Entry.{isWaiting, isIssued, isCompleted, held}
 use Rattle.tables.specs.declared.State.{State as Stage}
 use Rattle.tables.specs.declared.State.the-variants.{Waits, Issued, Completed}
 use Rattle.machine.specs.Range.{machineInRange}
-use Rattle.machine.specs.Call.{entryAt, halted, noEntry, lengthsDiffer, lentRefusal, inTurn, answered}
+use Rattle.machine.specs.Call.{halted, noEntry, lengthsDiffer, lentRefusal, inTurn, answered}
+use Rattle.machine.specs.Changes.{entryAt}
 use Rattle.decoding.specs.Decode.{decodeRefusal, decoded, decodeOf}
 use Rattle.issuing.specs.Issue.{storeBelow, unready, issueRefusal, issued, issueOf}
 use Rattle.completing.specs.Complete.{outcomeAt, victimOf, noVictim, needsRegister, noneFree, completeRefusal, completed, completeOf}

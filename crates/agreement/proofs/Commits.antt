@@ -11,7 +11,7 @@ use Rattle.execution.specs.declared.Stop.{Stop}
 use Rattle.tables.specs.Entry.{emptyEntry}
 use Rattle.tables.specs.declared.State.the-variants.{Completed}
 use Rattle.tables.specs.declared.Entry.{Entry}
-use Rattle.machine.specs.Call.{entryAt}
+use Rattle.machine.specs.Changes.{entryAt}
 use Rattle.machine.specs.Drop.{dropTo}
 use Rattle.committing.specs.Commit.{haltedBy, retired}
 use Rattle.machine.specs.declared.Machine.{Machine}

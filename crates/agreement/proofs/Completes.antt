@@ -12,7 +12,7 @@ use Rattle.execution.specs.declared.Outcome.{Outcome}
 use Rattle.tables.specs.Entry.{emptyEntry, held, completedEntry, stoppedEntry, waitingEntry}
 use Rattle.tables.specs.declared.State.the-variants.{Issued, Completed}
 use Rattle.tables.specs.declared.Entry.{Entry}
-use Rattle.machine.specs.Call.{entryAt, place}
+use Rattle.machine.specs.Changes.{entryAt, place}
 use Rattle.completing.specs.Complete.{outcomeAt, robbed, learned, redirected}
 use Rattle.machine.specs.declared.Machine.{Machine}
 use Rattle.agreement.proofs.Core.{Core, coreOf, informEntry, putHead, placed, release, learn, redirect}

@@ -20,7 +20,7 @@ use Rattle.tables.specs.Entry.{emptyEntry, issuedEntry}
 use Rattle.tables.specs.declared.State.the-variants.{Waits}
 use Rattle.tables.specs.declared.Entry.{Entry}
 use Rattle.tables.proofs.TableLaws.{look-zero}
-use Rattle.machine.specs.Call.{entryAt}
+use Rattle.machine.specs.Changes.{entryAt}
 use Rattle.decoding.specs.Decode.{enteringCause, endedEntry, operandOn, nameFor, startedEntry, entryFor, decoded}
 use Rattle.issuing.specs.Issue.{storeBelow, issued}
 use Rattle.machine.specs.declared.Machine.{Machine}

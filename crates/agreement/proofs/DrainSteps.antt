@@ -12,7 +12,8 @@ use Rattle.execution.specs.declared.Stop.{Stop}
 use Rattle.tables.specs.Entry.{emptyEntry, stateNumber}
 use Rattle.tables.specs.declared.State.{State as Stage}
 use Rattle.tables.specs.declared.State.the-variants.{Waits, Issued, Completed}
-use Rattle.machine.specs.Call.{entryAt, halted, lentRefusal, inTurn, answered}
+use Rattle.machine.specs.Call.{halted, lentRefusal, inTurn, answered}
+use Rattle.machine.specs.Changes.{entryAt}
 use Rattle.machine.specs.Drop.{dropTo}
 use Rattle.issuing.specs.Issue.{issueRefusal, issued, issueOf}
 use Rattle.completing.specs.Complete.{completeRefusal, completed, completeOf}

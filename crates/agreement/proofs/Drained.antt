@@ -8,7 +8,8 @@ use lib.ListN.{length}
 use Rattle.isa.specs.Reads.{choose}
 use Rattle.reference.specs.Step.{State}
 use Rattle.tables.specs.declared.State.{State as Stage}
-use Rattle.machine.specs.Call.{entryAt, lentRefusal}
+use Rattle.machine.specs.Call.{lentRefusal}
+use Rattle.machine.specs.Changes.{entryAt}
 use Rattle.committing.specs.Commit.{Commit}
 use Rattle.window.specs.Drain.{neededOf, Drain, idle, drainEnds, drainFrom, drainOf}
 use Rattle.machine.specs.declared.Machine.{Machine}

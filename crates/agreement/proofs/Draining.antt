@@ -13,7 +13,8 @@ use Rattle.laws.proofs.Bools.{impossible, and-left, and-right}
 use Rattle.tables.specs.Entry.{emptyEntry}
 use Rattle.tables.specs.declared.Entry.{Entry}
 use Rattle.machine.specs.Range.{everyFrom, setupInRange, entryInRange, entriesInRange, tablesInRange, machineInRange}
-use Rattle.machine.specs.Call.{entryAt, lentRefusal}
+use Rattle.machine.specs.Call.{lentRefusal}
+use Rattle.machine.specs.Changes.{entryAt}
 use Rattle.committing.specs.Commit.{Commit}
 use Rattle.window.specs.Drain.{neededOf, Drain, idle, drainEnds, drainFrom, drainOf}
 use Rattle.machine.specs.declared.Setup.{Setup}

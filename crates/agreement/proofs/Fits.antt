@@ -9,7 +9,7 @@ use Rattle.reference.proofs.Laws.{statement}
 use Rattle.tables.specs.Entry.{stoppedEntry, completedEntry, held}
 use Rattle.tables.specs.declared.Entry.{Entry}
 use Rattle.machine.specs.Range.{setupInRange}
-use Rattle.machine.specs.Call.{entryAt, place}
+use Rattle.machine.specs.Changes.{entryAt, place}
 use Rattle.machine.specs.Drop.{dropTo}
 use Rattle.decoding.specs.Decode.{entryFor}
 use Rattle.issuing.specs.Issue.{issued}

@@ -15,9 +15,9 @@ use Rattle.tables.specs.Entry.{emptyEntry, completedEntry, waitingEntry, sleepE
 use Rattle.tables.specs.declared.Entry.{Entry}
 use Rattle.tables.proofs.TableLaws.{store-length}
 use Rattle.machine.specs.SetUp.{freshMachine, risingNext, risingLink, ownNumbers}
-use Rattle.machine.specs.Call.{place, entryAt}
+use Rattle.machine.specs.Changes.{place, entryAt}
 use Rattle.decoding.specs.Decode.{enter}
-use Rattle.machine.specs.Drop.{dropYoungest, dropMany, dropTo, restored}
+use Rattle.machine.specs.Drop.{dropYoungest, dropMany, dropTo}
 use Rattle.completing.specs.Complete.{shows, robbed, learned, refetched, redirected}
 use Rattle.committing.specs.Commit.{haltedBy, moveDown, retired}
 use Rattle.machine.specs.declared.Machine.{Machine}
@@ -153,19 +153,20 @@ module _ (m : Machine) (k : Kept m) where
   pub kept-drop : Kept (dropYoungest m)
   unfolding dropYoungest
   kept-drop =
-      let e : Entry = getD (m .entries) (m .count - 1) emptyEntry in
+      let e : Entry = entryAt m (m .count - 1) in
+      let back : ℕ = lookUp (storeUnder (m .physical) (e .name) 0) (e .previous) in
       record {
         entries = length-set (m .entries) (m .count - 1) emptyEntry ∙ k .entries;
         mapname = stored-length (m .mapname) (e .destination) (e .previous) 32 (k .mapname);
-        mapregister = stored-length (m .mapregister) (e .destination) (restored m e) 32 (k .mapregister);
-        mapvalid = stored-length (m .mapvalid) (e .destination) (not (eqb (restored m e) 0)) 32 (k .mapvalid);
+        mapregister = stored-length (m .mapregister) (e .destination) back 32 (k .mapregister);
+        mapvalid = stored-length (m .mapvalid) (e .destination) (not (eqb back 0)) 32 (k .mapvalid);
         physical = stored-length (m .physical) (e .name) 0 96 (k .physical);
         values = k .values;
         registerlink = stored-length (m .registerlink) _ (m .registerhead) 96 (k .registerlink);
         namelink = stored-length (m .namelink) (e .name) (m .namehead) 96 (k .namelink);
         count = let c = k .count in omega arith;
         window = k .window;
-        valid = store-valid (m .mapvalid) (m .mapregister) (e .destination) (not (eqb (restored m e) 0)) (restored m e) (same-lengths m k) refl (k .valid);
+        valid = store-valid (m .mapvalid) (m .mapregister) (e .destination) (not (eqb back 0)) back (same-lengths m k) refl (k .valid);
       }
 
   pub kept-refetched : (position next : ℕ) → Kept (refetched position next m)

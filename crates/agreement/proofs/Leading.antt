@@ -11,7 +11,8 @@ use lib.Dec.{eqb}
 use Rattle.isa.specs.Reads.{choose}
 use Rattle.tables.specs.declared.State.{State as Stage}
 use Rattle.tables.specs.declared.State.the-variants.{Waits, Issued, Completed}
-use Rattle.machine.specs.Call.{entryAt, lentRefusal, inTurn, answered}
+use Rattle.machine.specs.Call.{lentRefusal, inTurn, answered}
+use Rattle.machine.specs.Changes.{entryAt}
 use Rattle.issuing.specs.Issue.{issueRefusal, issued, issueOf}
 use Rattle.completing.specs.Complete.{completeRefusal, completed, completeOf}
 use Rattle.committing.specs.Commit.{commitRefusal, committed, writtenBy, Commit, commitBy, commitOf}

@@ -12,7 +12,7 @@ use Rattle.tables.specs.FreeList.{takenHead, takenLink}
 use Rattle.tables.specs.Entry.{emptyEntry, held, completedEntry, waitingEntry, sleepEntry, wakeEntry}
 use Rattle.tables.specs.declared.Entry.{Entry}
 use Rattle.tables.proofs.TableLaws.{look-within, look-zero, store-within, store-zero}
-use Rattle.machine.specs.Call.{entryAt, changeFirst}
+use Rattle.machine.specs.Changes.{entryAt, changeFirst}
 use Rattle.completing.specs.Complete.{robbed, learned}
 use Rattle.machine.specs.declared.Machine.{Machine}
 use Rattle.agreement.proofs.Core.{Core, coreOf, informEntry, putHead, putLink, reshown, release, learn}

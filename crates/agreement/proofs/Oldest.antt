@@ -13,7 +13,7 @@ use Rattle.tables.specs.Entry.{emptyEntry, completedEntry, stoppedEntry, predic
 use Rattle.tables.specs.declared.State.{State as Stage}
 use Rattle.tables.specs.declared.State.the-variants.{Waits, Issued, Completed}
 use Rattle.tables.specs.declared.Entry.{Entry}
-use Rattle.machine.specs.Call.{entryAt, place}
+use Rattle.machine.specs.Changes.{entryAt, place}
 use Rattle.machine.specs.Drop.{dropYoungest, dropMany, dropTo}
 use Rattle.decoding.specs.Decode.{enteringCause, startedEntry, endedEntry, enter, decoded}
 use Rattle.issuing.specs.Issue.{issued}

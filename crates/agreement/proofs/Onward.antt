@@ -16,7 +16,8 @@ use Rattle.tables.specs.Operand.{isReady}
 use Rattle.tables.specs.declared.State.{State as Stage}
 use Rattle.tables.specs.declared.State.the-variants.{Waits, Issued, Completed}
 use Rattle.tables.specs.declared.Entry.{Entry}
-use Rattle.machine.specs.Call.{entryAt, lentRefusal}
+use Rattle.machine.specs.Call.{lentRefusal}
+use Rattle.machine.specs.Changes.{entryAt}
 use Rattle.decoding.specs.Decode.{decoded}
 use Rattle.issuing.specs.Issue.{storeBelow, issued}
 use Rattle.completing.specs.Complete.{completed}

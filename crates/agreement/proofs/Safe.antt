@@ -17,7 +17,7 @@ use Rattle.execution.specs.declared.Stop.{Stop}
 use Rattle.reference.proofs.Laws.{statement}
 use Rattle.tables.specs.Entry.{stoppedEntry, completedEntry, held}
 use Rattle.tables.specs.declared.Entry.{Entry}
-use Rattle.machine.specs.Call.{entryAt, place}
+use Rattle.machine.specs.Changes.{entryAt, place}
 use Rattle.machine.specs.Drop.{dropTo}
 use Rattle.decoding.specs.Decode.{entryFor}
 use Rattle.completing.specs.Complete.{outcomeAt, robbed, learned}

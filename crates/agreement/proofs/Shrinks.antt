@@ -8,7 +8,7 @@ use lib.ListN.{length, set, length-set}
 use Rattle.execution.specs.declared.Outcome.{Outcome}
 use Rattle.tables.specs.Entry.{emptyEntry, completedEntry, stoppedEntry, predictedEntry, waitingEntry, wakeEntry, sleepEntry}
 use Rattle.tables.specs.declared.Entry.{Entry}
-use Rattle.machine.specs.Call.{entryAt, place}
+use Rattle.machine.specs.Changes.{entryAt, place}
 use Rattle.machine.specs.Drop.{dropYoungest, dropMany, dropTo}
 use Rattle.issuing.specs.Issue.{issued}
 use Rattle.completing.specs.Complete.{outcomeAt, victimOf, noneFree, registerFor, suppliedFor, robbed, learned, registered, refetched, redirected, completed}

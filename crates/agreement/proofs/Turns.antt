@@ -17,7 +17,8 @@ use Rattle.tables.specs.declared.State.{State as Stage}
 use Rattle.tables.specs.declared.State.the-variants.{Waits, Issued, Completed}
 use Rattle.tables.specs.declared.Entry.{Entry}
 use Rattle.machine.specs.Range.{machineInRange}
-use Rattle.machine.specs.Call.{entryAt, place, halted, noEntry, lengthsDiffer, lentRefusal, inTurn, answered}
+use Rattle.machine.specs.Call.{halted, noEntry, lengthsDiffer, lentRefusal, inTurn, answered}
+use Rattle.machine.specs.Changes.{entryAt, place}
 use Rattle.machine.specs.Drop.{dropTo}
 use Rattle.decoding.specs.Decode.{decodeRefusal, decoded, decodeOf}
 use Rattle.issuing.specs.Issue.{storeBelow, unready, issueRefusal, issued, issueOf}

@@ -15,7 +15,7 @@ use Rattle.tables.specs.FreeList.{freedHead, freedLink, takenHead}
 use Rattle.tables.specs.Entry.{emptyEntry, predictedEntry}
 use Rattle.tables.specs.declared.Entry.{Entry}
 use Rattle.tables.proofs.TableLaws.{store-within, store-zero}
-use Rattle.machine.specs.Call.{entryAt, place}
+use Rattle.machine.specs.Changes.{entryAt, place}
 use Rattle.decoding.specs.Decode.{enter}
 use Rattle.machine.specs.Drop.{dropYoungest, dropMany, dropTo}
 use Rattle.completing.specs.Complete.{refetched, redirected}

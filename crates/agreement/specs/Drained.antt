@@ -6,7 +6,8 @@ use mathlib.Core.Bool.{true}
 use mathlib.Core.List.{List}
 use lib.ListN.{length}
 use Rattle.machine.specs.SetUp.{setUpRefusal}
-use Rattle.machine.specs.Call.{entryAt, lentRefusal}
+use Rattle.machine.specs.Call.{lentRefusal}
+use Rattle.machine.specs.Changes.{entryAt}
 use Rattle.window.specs.Drain.{Drain, idle, drainEnds, drainOf}
 use Rattle.machine.specs.declared.Machine.{Machine}
 use Rattle.agreement.specs.Lists.{Event, own, World, Made, make, makeAll, started, neededBy}

@@ -11,7 +11,8 @@ use Rattle.reference.specs.Step.{State, state}
 use Rattle.tables.specs.declared.State.{State as Stage}
 use Rattle.tables.specs.declared.State.the-variants.{Waits, Issued, Completed}
 use Rattle.machine.specs.SetUp.{freshMachine}
-use Rattle.machine.specs.Call.{entryAt, lengthsDiffer}
+use Rattle.machine.specs.Call.{lengthsDiffer}
+use Rattle.machine.specs.Changes.{entryAt}
 use Rattle.decoding.specs.Decode.{decodeOf}
 use Rattle.issuing.specs.Issue.{issueOf}
 use Rattle.completing.specs.Complete.{completeOf}

@@ -18,7 +18,9 @@ use Rattle.tables.specs.Entry.{emptyEntry, isCompleted}
 use Rattle.tables.specs.declared.Entry.{Entry}
 use Rattle.machine.specs.declared.Machine.{Machine}
 use Rattle.machine.specs.declared.Answer.{Answer}
-use Rattle.machine.specs.Call.{entryAt, withEntries, halted, noEntry, lentRefusal, inTurn}
+use Rattle.machine.specs.Call.{halted, noEntry, lentRefusal, inTurn}
+use Rattle.machine.specs.Changes.{entryAt}
+use Rattle.machine.specs.Setters.{withEntries}
 use Rattle.machine.specs.Drop.{dropTo}
 use Rattle.committing.specs.Commit.{commitRefusal, haltedBy, moveDown, retired, stoppedWith, committed, writtenBy, Commit, commitBy, commitWithin, commitOf}
 use Rattle.machine.proofs.RefusalLaws.{passed, own-next}

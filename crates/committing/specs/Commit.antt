@@ -8,11 +8,12 @@ use Rattle.isa.specs.Reads.{choose}
 use Rattle.execution.specs.Memory.{stored}
 use Rattle.reference.specs.Step.{when, first}
 use Rattle.execution.specs.declared.Stop.{Stop}
-use Rattle.tables.specs.Table.{lookUp, storeUnder}
-use Rattle.tables.specs.FreeList.{freedHead, freedLink}
+use Rattle.tables.specs.Table.{lookUp}
 use Rattle.tables.specs.Entry.{emptyEntry, isCompleted}
 use Rattle.tables.specs.declared.Entry.{Entry}
-use Rattle.machine.specs.Call.{entryAt, halted, noEntry, lentRefusal, inTurn, answered}
+use Rattle.machine.specs.Call.{halted, noEntry, lentRefusal, inTurn, answered}
+use Rattle.machine.specs.Setters.{withCount, withEntries, withNext, withHalt}
+use Rattle.machine.specs.Changes.{entryAt, freeRegister, freeName}
 use Rattle.machine.specs.Drop.{dropTo}
 use Rattle.machine.specs.declared.Machine.{Machine}
 use Rattle.machine.specs.declared.Answer.{Answer}
@@ -23,24 +24,7 @@ commitRefusal m = first (when (halted m) 10 ∷ when (noEntry m 0) 12 ∷ when (
 
 -- the machine halts
 unfoldable pub haltedBy : Stop → Machine → Machine
-haltedBy why m =
-    record {
-      setup = m .setup;
-      count = m .count;
-      entries = m .entries;
-      mapname = m .mapname;
-      mapregister = m .mapregister;
-      mapvalid = m .mapvalid;
-      physical = m .physical;
-      values = m .values;
-      registerhead = m .registerhead;
-      registerlink = m .registerlink;
-      namehead = m .namehead;
-      namelink = m .namelink;
-      fetch = m .fetch;
-      next = m .next;
-      halt = why;
-    }
+haltedBy why m = withHalt why m
 
 -- all entries move one place down, and the last place is emptied; places past the count stay
 unfoldable pub moveDown : ℕ → List Entry → List Entry
@@ -50,23 +34,7 @@ moveDown count entries = drop 1 (take count entries) ++ emptyEntry ∷ drop coun
 unfoldable pub retired : Machine → Machine
 retired m =
     let e : Entry = entryAt m 0 in
-    record {
-      setup = m .setup;
-      count = m .count - 1;
-      entries = moveDown (m .count) (m .entries);
-      mapname = m .mapname;
-      mapregister = m .mapregister;
-      mapvalid = m .mapvalid;
-      physical = storeUnder (m .physical) (e .previous) 0;
-      values = m .values;
-      registerhead = freedHead (m .registerhead) (lookUp (m .physical) (e .previous));
-      registerlink = freedLink (m .registerlink) (m .registerhead) (lookUp (m .physical) (e .previous));
-      namehead = freedHead (m .namehead) (e .previous);
-      namelink = freedLink (m .namelink) (m .namehead) (e .previous);
-      fetch = m .fetch;
-      next = e .predicted;
-      halt = m .halt;
-    }
+    withNext (e .predicted) (freeName (e .previous) (freeRegister (lookUp (m .physical) (e .previous)) (withCount (m .count - 1) (withEntries (moveDown (m .count) (m .entries)) m))))
 
 -- "With a cause: the rest is dropped, then this entry; the machine halts with the cause, fetch and next address staying."
 abbrev pub stoppedWith : Stop → Machine → Machine

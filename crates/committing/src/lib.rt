@@ -3,7 +3,7 @@ ghost use mathlib.Core.Path.{_≡_};
 ghost use mathlib.Core.Bool.{true};
 ghost use Prim.Native.Nat.{_≤_, _<_};
 ghost use Rattle.machine.specs.Range.{machineInRange};
-ghost use Rattle.machine.specs.Call as Call;
+ghost use Rattle.machine.specs.Setters.{withEntries};
 ghost use Rattle.committing.specs.Commit as Commit;
 use execution::Stop;
 use machine::Answer;
@@ -32,7 +32,7 @@ fn commit_refusal(machine: Machine) -> u8
 // all entries one place down
 fn moved_down(mut machine: Machine) -> Machine
     requires { ⌜ (0 < machine .count) × (machine .count ≤ 64) ⌝ }
-    ensures { λ r. ⌜ r ≡ Call.withEntries (Commit.moveDown (machine .count) (machine .entries)) machine ⌝ }
+    ensures { λ r. ⌜ r ≡ withEntries (Commit.moveDown (machine .count) (machine .entries)) machine ⌝ }
 {
     let last = machine.count as usize - 1;
     let mut k: usize = 0;

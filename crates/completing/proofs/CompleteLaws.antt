@@ -16,7 +16,9 @@ use Rattle.tables.specs.FreeList.{takenHead, takenLink}
 use Rattle.tables.specs.Entry.{emptyEntry, isIssued, stoppedEntry, completedEntry, waitingEntry, predictedEntry, wakeEntry, sleepEntry, held}
 use Rattle.tables.specs.declared.Entry.{Entry}
 use Rattle.machine.specs.declared.Machine.{Machine}
-use Rattle.machine.specs.Call.{entryAt, place, withEntries, changeFirst, halted, noEntry, lentRefusal, answered}
+use Rattle.machine.specs.Call.{halted, noEntry, lentRefusal, answered}
+use Rattle.machine.specs.Changes.{entryAt, place, changeFirst}
+use Rattle.machine.specs.Setters.{withEntries}
 use Rattle.machine.specs.Drop.{dropTo}
 use Rattle.completing.specs.Complete.{outcomeAt, victimAmong, victimOf, noVictim, needsRegister, noneFree, completeRefusal, shows, robbed, registerFor, suppliedFor, learned, registered, refetched, redirected, finished, completed, completeWithin, completeOf}
 use Rattle.machine.proofs.RefusalLaws.{passed, own-next}

@@ -3,7 +3,7 @@ use Prim.Native.Nat.{ℕ, zero, suc, _+_, _-_}
 use mathlib.Core.Bool.{Bool, true, false, not, _&&_}
 use mathlib.Core.List.{List, [], _∷_}
 use lib.Dec.{eqb}
-use lib.ListN.{getD, set}
+use lib.ListN.{getD}
 use Rattle.isa.specs.Reads.{choose}
 use Rattle.execution.specs.Execute.{executed}
 use Rattle.reference.specs.Step.{when, first}
@@ -12,7 +12,9 @@ use Rattle.tables.specs.Table.{lookUp, storeUnder}
 use Rattle.tables.specs.FreeList.{takenHead, takenLink}
 use Rattle.tables.specs.Entry.{emptyEntry, isIssued, stoppedEntry, completedEntry, waitingEntry, predictedEntry, wakeEntry, sleepEntry, held}
 use Rattle.tables.specs.declared.Entry.{Entry}
-use Rattle.machine.specs.Call.{entryAt, place, changeFirst, halted, noEntry, lentRefusal, inTurn, answered}
+use Rattle.machine.specs.Call.{halted, noEntry, lentRefusal, inTurn, answered}
+use Rattle.machine.specs.Setters.{withMap, withPhysical, withValues, withFreeRegisters, withFetch}
+use Rattle.machine.specs.Changes.{entryAt, place, changeAll}
 use Rattle.machine.specs.Drop.{dropTo}
 use Rattle.machine.specs.declared.Machine.{Machine}
 use Rattle.machine.specs.declared.Answer.{Answer}
@@ -58,27 +60,18 @@ completeRefusal position m =
 abbrev pub shows : Machine → ℕ → ℕ → Bool
 shows m d name = eqb (lookUp (m .mapname) d) name
 
+-- both maps learn a name's register and valid bit, "the general map only if it still shows the name"
+abbrev pub mapsLearn : ℕ → ℕ → ℕ → Bool → Machine → Machine
+mapsLearn d name register valid m =
+    withMap (m .mapname) (choose (shows m d name) (storeUnder (m .mapregister) d register) (m .mapregister))
+    (choose (shows m d name) (storeUnder (m .mapvalid) d valid) (m .mapvalid))
+    (withPhysical (storeUnder (m .physical) name register) m)
+
 -- "The victim becomes waiting, its name loses the register, the general map's valid bit falls if it still shows that name, and operands on it are waiting again in entries of every state."
 unfoldable pub robbed : ℕ → Machine → Machine
 robbed victim m =
     let e : Entry = entryAt m victim in
-    record {
-      setup = m .setup;
-      count = m .count;
-      entries = changeFirst (m .count) (sleepEntry (e .name)) (set (m .entries) victim (waitingEntry e));
-      mapname = m .mapname;
-      mapregister = choose (shows m (e .destination) (e .name)) (storeUnder (m .mapregister) (e .destination) 0) (m .mapregister);
-      mapvalid = choose (shows m (e .destination) (e .name)) (storeUnder (m .mapvalid) (e .destination) false) (m .mapvalid);
-      physical = storeUnder (m .physical) (e .name) 0;
-      values = m .values;
-      registerhead = m .registerhead;
-      registerlink = m .registerlink;
-      namehead = m .namehead;
-      namelink = m .namelink;
-      fetch = m .fetch;
-      next = m .next;
-      halt = m .halt;
-    }
+    changeAll (sleepEntry (e .name)) (mapsLearn (e .destination) (e .name) 0 false (place victim (waitingEntry e) m))
 
 -- the machine and the register with which an entry goes on: the head of the pool, or the victim's
 abbrev pub registerFor : Machine → ℕ → ℕ
@@ -91,23 +84,10 @@ suppliedFor m position = choose (noneFree m) (robbed (victimOf m position) m) m
 unfoldable pub learned : ℕ → ℕ → ℕ → Machine → Machine
 learned position register result m =
     let e : Entry = entryAt m position in
-    record {
-      setup = m .setup;
-      count = m .count;
-      entries = changeFirst (m .count) (wakeEntry (e .name) register) (set (m .entries) position (completedEntry result e));
-      mapname = m .mapname;
-      mapregister = choose (shows m (e .destination) (e .name)) (storeUnder (m .mapregister) (e .destination) register) (m .mapregister);
-      mapvalid = choose (shows m (e .destination) (e .name)) (storeUnder (m .mapvalid) (e .destination) true) (m .mapvalid);
-      physical = storeUnder (m .physical) (e .name) register;
-      values = storeUnder (m .values) register result;
-      registerhead = takenHead (m .registerlink) (m .registerhead);
-      registerlink = takenLink (m .registerlink) (m .registerhead);
-      namehead = m .namehead;
-      namelink = m .namelink;
-      fetch = m .fetch;
-      next = m .next;
-      halt = m .halt;
-    }
+    changeAll (wakeEntry (e .name) register)
+    (mapsLearn (e .destination) (e .name) register true
+    (withValues (storeUnder (m .values) register result)
+    (withFreeRegisters (takenHead (m .registerlink) (m .registerhead)) (takenLink (m .registerlink) (m .registerhead)) (place position (completedEntry result e) m))))
 
 -- "(0 without a destination)"
 abbrev pub registered : ℕ → ℕ → Machine → Machine
@@ -117,24 +97,7 @@ registered position result m =
 
 -- fetch goes to an address, and an entry's predicted next becomes it
 unfoldable pub refetched : ℕ → ℕ → Machine → Machine
-refetched position next m =
-    record {
-      setup = m .setup;
-      count = m .count;
-      entries = set (m .entries) position (predictedEntry next (entryAt m position));
-      mapname = m .mapname;
-      mapregister = m .mapregister;
-      mapvalid = m .mapvalid;
-      physical = m .physical;
-      values = m .values;
-      registerhead = m .registerhead;
-      registerlink = m .registerlink;
-      namehead = m .namehead;
-      namelink = m .namelink;
-      fetch = next;
-      next = m .next;
-      halt = m .halt;
-    }
+refetched position next m = withFetch next (place position (predictedEntry next (entryAt m position)) m)
 
 -- "Last, if actual and predicted next differ, all younger entries are dropped and fetch goes to actual; predicted becomes actual."
 unfoldable pub redirected : ℕ → ℕ → Machine → Machine

@@ -3,7 +3,7 @@ ghost use mathlib.Core.Path.{_≡_};
 ghost use mathlib.Core.Bool.{true, _&&_};
 ghost use Prim.Native.Nat.{_≤_, _<_};
 ghost use Rattle.machine.specs.Range.{machineInRange};
-ghost use Rattle.machine.specs.Call as Call;
+ghost use Rattle.machine.specs.Changes.{changeAll};
 ghost use Rattle.completing.specs.Complete as Complete;
 ghost use Rattle.tables.specs.Entry.{wakeEntry, sleepEntry};
 use execution::Outcome;
@@ -16,7 +16,7 @@ use tables::maps;
 // operands on this name are ready with this register
 fn wake_all(mut machine: Machine, name: u8, register: u8) -> Machine
     requires { ⌜ machine .count ≤ 64 ⌝ }
-    ensures { λ r. ⌜ r ≡ Call.withEntries (Call.changeFirst (machine .count) (wakeEntry name register) (machine .entries)) machine ⌝ }
+    ensures { λ r. ⌜ r ≡ changeAll (wakeEntry name register) machine ⌝ }
 {
     let count = machine.count as usize;
     let mut k: usize = 0;
@@ -32,7 +32,7 @@ fn wake_all(mut machine: Machine, name: u8, register: u8) -> Machine
 // operands on this name are waiting again
 fn sleep_all(mut machine: Machine, name: u8) -> Machine
     requires { ⌜ machine .count ≤ 64 ⌝ }
-    ensures { λ r. ⌜ r ≡ Call.withEntries (Call.changeFirst (machine .count) (sleepEntry name) (machine .entries)) machine ⌝ }
+    ensures { λ r. ⌜ r ≡ changeAll (sleepEntry name) machine ⌝ }
 {
     let count = machine.count as usize;
     let mut k: usize = 0;

@@ -18,6 +18,8 @@ use Rattle.tables.specs.declared.Operand.the-variants.{Zero}
 use Rattle.tables.specs.declared.State.the-variants.{Waits, Completed}
 use Rattle.tables.specs.declared.Entry.{Entry}
 use Rattle.machine.specs.Machine.{zeroMachine}
+use Rattle.machine.specs.Setters.{withCount, withFreeNames, withFetch}
+use Rattle.machine.specs.Changes.{place, mapTo}
 use Rattle.machine.specs.Call.{halted, lentRefusal, inTurn, answered}
 use Rattle.machine.specs.declared.Machine.{Machine}
 use Rattle.machine.specs.declared.Answer.{Answer}
@@ -108,44 +110,11 @@ entryFor m f guess = choose (eqb (enteringCause f) 0) (startedEntry m (f .fields
 -- the general map shows a name under its destination, "valid is cleared"; the pool of names is without its head where there is a destination
 abbrev pub renamed : ℕ → ℕ → Machine → Machine
 renamed d name m =
-    record {
-      setup = m .setup;
-      count = m .count;
-      entries = m .entries;
-      mapname = storeUnder (m .mapname) d name;
-      mapregister = storeUnder (m .mapregister) d 0;
-      mapvalid = storeUnder (m .mapvalid) d false;
-      physical = m .physical;
-      values = m .values;
-      registerhead = m .registerhead;
-      registerlink = m .registerlink;
-      namehead = choose (eqb d 0) (m .namehead) (takenHead (m .namelink) (m .namehead));
-      namelink = takenLink (m .namelink) name;
-      fetch = m .fetch;
-      next = m .next;
-      halt = m .halt;
-    }
+    withFreeNames (choose (eqb d 0) (m .namehead) (takenHead (m .namelink) (m .namehead))) (takenLink (m .namelink) name) (mapTo d name 0 false m)
 
 -- an entry enters; "Fetch goes there"
 abbrev pub appended : Entry → Machine → Machine
-appended e m =
-    record {
-      setup = m .setup;
-      count = suc (m .count);
-      entries = set (m .entries) (m .count) e;
-      mapname = m .mapname;
-      mapregister = m .mapregister;
-      mapvalid = m .mapvalid;
-      physical = m .physical;
-      values = m .values;
-      registerhead = m .registerhead;
-      registerlink = m .registerlink;
-      namehead = m .namehead;
-      namelink = m .namelink;
-      fetch = e .predicted;
-      next = m .next;
-      halt = m .halt;
-    }
+appended e m = withFetch (e .predicted) (withCount (suc (m .count)) (place (m .count) e m))
 
 unfoldable pub enter : Entry → Machine → Machine
 enter e m = appended e (renamed (e .destination) (e .name) m)

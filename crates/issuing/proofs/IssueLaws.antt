@@ -15,7 +15,8 @@ use Rattle.tables.specs.Operand.{isReady, valueOf}
 use Rattle.tables.specs.Entry.{emptyEntry, isWaiting, issuedEntry}
 use Rattle.tables.specs.declared.Entry.{Entry}
 use Rattle.machine.specs.declared.Machine.{Machine}
-use Rattle.machine.specs.Call.{entryAt, place, halted, noEntry, lentRefusal, answered}
+use Rattle.machine.specs.Call.{halted, noEntry, lentRefusal, answered}
+use Rattle.machine.specs.Changes.{entryAt, place}
 use Rattle.issuing.specs.Issue.{storeBelow, unready, issueRefusal, issued, issueWithin, issueOf}
 use Rattle.machine.proofs.RefusalLaws.{passed, own-next}
 

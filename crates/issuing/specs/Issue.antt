@@ -9,7 +9,8 @@ use Rattle.reference.specs.Step.{when, first}
 use Rattle.tables.specs.Operand.{isReady, valueOf}
 use Rattle.tables.specs.Entry.{emptyEntry, isWaiting, issuedEntry}
 use Rattle.tables.specs.declared.Entry.{Entry}
-use Rattle.machine.specs.Call.{entryAt, place, halted, noEntry, lentRefusal, inTurn, answered}
+use Rattle.machine.specs.Call.{halted, noEntry, lentRefusal, inTurn, answered}
+use Rattle.machine.specs.Changes.{entryAt, place}
 use Rattle.machine.specs.declared.Machine.{Machine}
 use Rattle.machine.specs.declared.Answer.{Answer}
 

@@ -1,49 +1,14 @@
 -- What the calls share.
-use Prim.Native.Nat.{ℕ, zero, suc}
+use Prim.Native.Nat.{ℕ}
 use mathlib.Core.Bool.{Bool, true, false, not, _&&_}
 use mathlib.Core.List.{List, [], _∷_}
 use lib.Dec.{leb, eqb}
-use lib.ListN.{length, getD, set}
+use lib.ListN.{length}
 use Rattle.isa.specs.Reads.{choose}
 use Rattle.reference.specs.Step.{when, first}
-use Rattle.tables.specs.Entry.{emptyEntry}
-use Rattle.tables.specs.declared.Entry.{Entry}
 use Rattle.machine.specs.Range.{machineInRange}
 use Rattle.machine.specs.declared.Machine.{Machine}
 use Rattle.machine.specs.declared.Answer.{Answer}
-
-abbrev pub entryAt : Machine → ℕ → Entry
-entryAt m position = getD (m .entries) position emptyEntry
-
--- the entries change, and no table does
-abbrev pub withEntries : List Entry → Machine → Machine
-withEntries entries m =
-    record {
-      setup = m .setup;
-      count = m .count;
-      entries = entries;
-      mapname = m .mapname;
-      mapregister = m .mapregister;
-      mapvalid = m .mapvalid;
-      physical = m .physical;
-      values = m .values;
-      registerhead = m .registerhead;
-      registerlink = m .registerlink;
-      namehead = m .namehead;
-      namelink = m .namelink;
-      fetch = m .fetch;
-      next = m .next;
-      halt = m .halt;
-    }
-
-abbrev pub place : ℕ → Entry → Machine → Machine
-place position e m = withEntries (set (m .entries) position e) m
-
--- the first n elements of a list change alike
-unfoldable pub changeFirst : {A : Type 0} → ℕ → (A → A) → List A → List A
-changeFirst zero f elements = elements
-changeFirst (suc n) f [] = []
-changeFirst (suc n) f (e ∷ elements) = f e ∷ changeFirst n f elements
 
 -- 6: "a lent length differs from set-up"
 abbrev pub lengthsDiffer : Machine → List ℕ → List ℕ → Bool

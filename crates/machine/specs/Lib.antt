@@ -2,6 +2,8 @@
 pub mod Machine
 pub mod SetUp
 pub mod Range
+pub mod Setters
+pub mod Changes
 pub mod Drop
 pub mod Report
 pub mod Call

@@ -20,7 +20,9 @@ use Rattle.tables.specs.FreeList.{takenHead, takenLink, freedHead, freedLink}
 use Rattle.tables.specs.Entry.{emptyEntry, isCompleted, completedEntry, wakeEntry}
 use Rattle.tables.specs.declared.Entry.{Entry}
 use Rattle.formats.specs.declared.Record.{Record}
-use Rattle.machine.specs.Call.{entryAt, place, withEntries, changeFirst, halted, noEntry, lentRefusal}
+use Rattle.machine.specs.Call.{halted, noEntry, lentRefusal}
+use Rattle.machine.specs.Changes.{entryAt, place, changeFirst}
+use Rattle.machine.specs.Setters.{withEntries}
 use Rattle.machine.specs.declared.Machine.{Machine}
 use Rattle.machine.specs.declared.Answer.{Answer}
 use Rattle.machine.proofs.RefusalLaws.{answered-next}

@@ -11,7 +11,8 @@ use Rattle.tables.specs.declared.State.{State}
 use Rattle.tables.specs.declared.State.the-variants.{Waits, Issued, Completed}
 use Rattle.machine.specs.declared.Machine.{Machine}
 use Rattle.machine.specs.declared.Answer.{Answer}
-use Rattle.machine.specs.Call.{entryAt, lentRefusal}
+use Rattle.machine.specs.Call.{lentRefusal}
+use Rattle.machine.specs.Changes.{entryAt}
 use Rattle.issuing.specs.Issue.{issueOf}
 use Rattle.completing.specs.Complete.{completeOf}
 use Rattle.committing.specs.Commit.{Commit, commitOf}

@@ -6,7 +6,8 @@ use lib.Dec.{eqb}
 use Rattle.isa.specs.Reads.{choose}
 use Rattle.tables.specs.declared.State.{State}
 use Rattle.tables.specs.declared.State.the-variants.{Waits, Issued, Completed}
-use Rattle.machine.specs.Call.{entryAt, halted, lentRefusal}
+use Rattle.machine.specs.Call.{halted, lentRefusal}
+use Rattle.machine.specs.Changes.{entryAt}
 use Rattle.issuing.specs.Issue.{issueOf}
 use Rattle.completing.specs.Complete.{completeOf}
 use Rattle.committing.specs.Commit.{Commit, commitOf}

@@ -4,7 +4,8 @@ use mathlib.Core.Path.{_≡_, refl}
 use mathlib.Core.Logic.{_≢_}
 use mathlib.Core.List.{List}
 use lib.Dec.{eqb}
-use Rattle.machine.specs.Call.{entryAt, lentRefusal, inTurn, answered}
+use Rattle.machine.specs.Call.{lentRefusal, inTurn, answered}
+use Rattle.machine.specs.Changes.{entryAt}
 use Rattle.machine.specs.declared.Machine.{Machine}
 use Rattle.machine.specs.declared.Answer.{Answer}
 use Rattle.decoding.specs.Decode.{decodeRefusal, decoded, decodeOf}

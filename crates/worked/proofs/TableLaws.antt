@@ -17,7 +17,8 @@ use Rattle.tables.specs.Table.{lookUnder, storeUnder}
 use Rattle.machine.specs.Machine.{tabulateFrom}
 use Rattle.machine.specs.SetUp.{risingLink, setUpRefusal, setUpOf}
 use Rattle.machine.specs.Range.{everyFrom, entryInRange, tablesInRange, machineInRange}
-use Rattle.machine.specs.Call.{changeFirst, lentRefusal}
+use Rattle.machine.specs.Call.{lentRefusal}
+use Rattle.machine.specs.Changes.{changeFirst}
 use Rattle.decoding.specs.Decode.{decodeRefusal, enter, decodeOf}
 use Rattle.issuing.specs.Issue.{storeBelow, issueRefusal, issued, issueOf}
 use Rattle.completing.specs.Complete.{victimAmong, completeRefusal, robbed, learned, redirected, completeOf}

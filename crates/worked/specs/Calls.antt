@@ -9,7 +9,7 @@ use Rattle.isa.specs.Encodes.{wordOf}
 use Rattle.tables.specs.Table.{lookUp}
 use Rattle.tables.specs.Entry.{stateNumber}
 use Rattle.machine.specs.SetUp.{setUpOf}
-use Rattle.machine.specs.Call.{entryAt}
+use Rattle.machine.specs.Changes.{entryAt}
 use Rattle.agreement.specs.Lists.{Call, decode, issue, complete, commit, own, World, Made, make, makeAll}
 
 -- ADDI x1, x0, 1 and ADDI x2, x0, 2

@@ -6,7 +6,7 @@ use native.Mathlib.Omega.{arith}
 use lib.ListN.{length}
 use Rattle.tables.specs.declared.Entry.{Entry}
 use Rattle.machine.specs.declared.Machine.{Machine}
-use Rattle.machine.specs.Call.{withEntries}
+use Rattle.machine.specs.Setters.{withEntries}
 use Rattle.committing.proofs.CommitLaws.{length-mapped, shifted, shifted-none, shift-turn, shift-done}
 use Rattle.committing.proofs.moved_down.Statement.{statement}
 use Rattle.committing.proofs.moved_down.Tie as tie

@@ -4,7 +4,7 @@ use native.Mathlib.Omega.{arith}
 use lib.Dec.{eqb}
 use borrow.Author.Tests.{eq-eqb, ne-eqb, le-leb, lt-leb, not-true, not-false}
 use Rattle.execution.specs.declared.Outcome.{Outcome}
-use Rattle.machine.specs.Call.{entryAt}
+use Rattle.machine.specs.Changes.{entryAt}
 use Rattle.completing.specs.Complete.{outcomeAt, victimOf}
 use Rattle.machine.proofs.ReportLaws.{in-range-count}
 use Rattle.completing.proofs.CompleteLaws.{refused-halted, refused-place, refused-state, refused-register, has-victim, supplied, supply}

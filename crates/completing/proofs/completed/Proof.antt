@@ -3,7 +3,7 @@ use native.Mathlib.Omega.{arith}
 use Rattle.execution.specs.declared.Outcome.{Outcome}
 use Rattle.tables.specs.declared.Entry.{Entry}
 use Rattle.machine.specs.declared.Machine.{Machine}
-use Rattle.machine.specs.Call.{place}
+use Rattle.machine.specs.Changes.{place}
 use Rattle.completing.specs.Complete.{registered, redirected, finished}
 use Rattle.machine.proofs.ReportLaws.{in-range-count}
 use Rattle.completing.proofs.CompleteLaws.{registered-count, finish-stops, finish-goes}

@@ -4,7 +4,7 @@ use Prim.Native.Nat.{ℕ, _<_}
 use Rattle.tables.specs.Entry.{held}
 use Rattle.tables.specs.declared.Entry.{Entry}
 use Rattle.machine.specs.declared.Machine.{Machine}
-use Rattle.machine.specs.Call.{entryAt, place}
+use Rattle.machine.specs.Changes.{entryAt, place}
 use Rattle.completing.specs.Complete.{victimOf, robbed, learned}
 use Rattle.completing.proofs.CompleteLaws.{victim-within, robbed-count, without-register, free-register, stolen-register}
 use borrow.Author.Needs.{needs}

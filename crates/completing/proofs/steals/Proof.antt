@@ -3,7 +3,7 @@ use mathlib.Core.Bool.{not, _&&_}
 use native.Mathlib.Omega.{arith}
 use lib.Dec.{eqb}
 use Rattle.execution.specs.declared.Outcome.{Outcome}
-use Rattle.machine.specs.Call.{entryAt}
+use Rattle.machine.specs.Changes.{entryAt}
 use Rattle.machine.proofs.ReportLaws.{in-range-count}
 use borrow.Author.Needs.{needs}
 use Rattle.completing.proofs.steals.Statement.{statement}

@@ -5,7 +5,8 @@ use denote.Ref.{now}
 use lib.ListN.{length}
 use borrow.Author.Needs.{needs}
 use Rattle.tables.specs.Entry.{wakeEntry}
-use Rattle.machine.specs.Call.{entryAt, withEntries, changeFirst}
+use Rattle.machine.specs.Changes.{entryAt, changeFirst}
+use Rattle.machine.specs.Setters.{withEntries}
 use Rattle.machine.specs.declared.Machine.{Machine}
 use Rattle.machine.proofs.OperationLaws.{in-range-operation}
 use Rattle.completing.proofs.CompleteLaws.{change-turn}
