@@ -20,7 +20,7 @@ use Rattle.machine.specs.declared.Machine.{Machine}
 use Rattle.machine.specs.declared.Answer.{Answer}
 use Rattle.machine.specs.Call.{halted, noEntry, lentRefusal, inTurn}
 use Rattle.machine.specs.Changes.{entryAt}
-use Rattle.machine.specs.Setters.{withEntries}
+use Rattle.machine.specs.Setters.{withCount, withEntries, withPhysical, withFreeRegisters, withFreeNames, withNext, withHalt}
 use Rattle.machine.specs.Drop.{dropTo}
 use Rattle.committing.specs.Commit.{commitRefusal, haltedBy, moveDown, retired, stoppedWith, committed, writtenBy, Commit, commitBy, commitWithin, commitOf}
 use Rattle.machine.proofs.RefusalLaws.{passed, own-next}
@@ -112,67 +112,13 @@ pub retired-is : (m k : Machine) (register registerhead namehead : ℕ) (registe
     → physical ≡ storeUnder (m .physical) (e .previous) 0
     → namehead ≡ freedHead (m .namehead) (e .previous)
     → namelink ≡ freedLink (m .namelink) (m .namehead) (e .previous)
-    → k
-    ≡ record {
-      setup = m .setup;
-      count = m .count;
-      entries = moveDown (m .count) (m .entries);
-      mapname = m .mapname;
-      mapregister = m .mapregister;
-      mapvalid = m .mapvalid;
-      physical = physical;
-      values = m .values;
-      registerhead = registerhead;
-      registerlink = registerlink;
-      namehead = namehead;
-      namelink = namelink;
-      fetch = m .fetch;
-      next = e .predicted;
-      halt = m .halt;
-    }
-    → _≡_ {A = Machine}
-    (record {
-      setup = k .setup;
-      count = k .count - 1;
-      entries = k .entries;
-      mapname = k .mapname;
-      mapregister = k .mapregister;
-      mapvalid = k .mapvalid;
-      physical = k .physical;
-      values = k .values;
-      registerhead = k .registerhead;
-      registerlink = k .registerlink;
-      namehead = k .namehead;
-      namelink = k .namelink;
-      fetch = k .fetch;
-      next = k .next;
-      halt = k .halt;
-    })
-    (retired m)
+    → k ≡ withNext (e .predicted) (withFreeNames namehead namelink (withFreeRegisters registerhead registerlink (withPhysical physical (withEntries (moveDown (m .count) (m .entries)) m))))
+    → withCount (k .count - 1) k ≡ retired m
 unfolding retired
 retired-is m k register registerhead namehead registerlink physical namelink a b c d f g h = rw (h, b, c, a, d, f, g)
 
 -- the machine halts
-pub halted-is : (why : Stop) (m k : Machine) → k ≡ m
-    → _≡_ {A = Machine}
-    (record {
-      setup = k .setup;
-      count = k .count;
-      entries = k .entries;
-      mapname = k .mapname;
-      mapregister = k .mapregister;
-      mapvalid = k .mapvalid;
-      physical = k .physical;
-      values = k .values;
-      registerhead = k .registerhead;
-      registerlink = k .registerlink;
-      namehead = k .namehead;
-      namelink = k .namelink;
-      fetch = k .fetch;
-      next = k .next;
-      halt = why;
-    })
-    (haltedBy why m)
+pub halted-is : (why : Stop) (m k : Machine) → k ≡ m → withHalt why k ≡ haltedBy why m
 unfolding haltedBy
 halted-is why m k h = rw h
 

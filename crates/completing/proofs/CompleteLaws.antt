@@ -17,8 +17,8 @@ use Rattle.tables.specs.Entry.{emptyEntry, isIssued, stoppedEntry, completedEnt
 use Rattle.tables.specs.declared.Entry.{Entry}
 use Rattle.machine.specs.declared.Machine.{Machine}
 use Rattle.machine.specs.Call.{halted, noEntry, lentRefusal, answered}
-use Rattle.machine.specs.Changes.{entryAt, place, changeFirst}
-use Rattle.machine.specs.Setters.{withEntries}
+use Rattle.machine.specs.Changes.{entryAt, place, changeFirst, changeAll}
+use Rattle.machine.specs.Setters.{withEntries, withMap, withPhysical, withValues, withFreeRegisters, withFetch}
 use Rattle.machine.specs.Drop.{dropTo}
 use Rattle.completing.specs.Complete.{outcomeAt, victimAmong, victimOf, noVictim, needsRegister, noneFree, completeRefusal, shows, robbed, registerFor, suppliedFor, learned, registered, refetched, redirected, finished, completed, completeWithin, completeOf}
 use Rattle.machine.proofs.RefusalLaws.{passed, own-next}
@@ -89,25 +89,7 @@ pub robbed-is : (m : Machine) (victim : ℕ) (again : Entry) (shown : ℕ) (mapr
     → mapregister ≡ choose (eqb shown (e .name)) (storeUnder (m .mapregister) (e .destination) 0) (m .mapregister)
     → mapvalid ≡ choose (eqb shown (e .name)) (storeUnder (m .mapvalid) (e .destination) false) (m .mapvalid)
     → physical ≡ storeUnder (m .physical) (e .name) 0
-    → _≡_ {A = Machine}
-    (record {
-      setup = m .setup;
-      count = m .count;
-      entries = changeFirst (m .count) (sleepEntry (e .name)) (set (m .entries) victim again);
-      mapname = m .mapname;
-      mapregister = mapregister;
-      mapvalid = mapvalid;
-      physical = physical;
-      values = m .values;
-      registerhead = m .registerhead;
-      registerlink = m .registerlink;
-      namehead = m .namehead;
-      namelink = m .namelink;
-      fetch = m .fetch;
-      next = m .next;
-      halt = m .halt;
-    })
-    (robbed victim m)
+    → changeAll (sleepEntry (e .name)) (withMap (m .mapname) mapregister mapvalid (withPhysical physical (place victim again m))) ≡ robbed victim m
 unfolding robbed
 robbed-is m victim again shown mapregister physical mapvalid a b c d f = rw (a, c, d, b, f)
 
@@ -122,25 +104,9 @@ pub learned-is : (m : Machine) (position register result : ℕ) (done : Entry) (
     → values ≡ storeUnder (m .values) register result
     → following ≡ takenHead (m .registerlink) (m .registerhead)
     → registerlink ≡ takenLink (m .registerlink) (m .registerhead)
-    → _≡_ {A = Machine}
-    (record {
-      setup = m .setup;
-      count = m .count;
-      entries = changeFirst (m .count) (wakeEntry (e .name) register) (set (m .entries) position done);
-      mapname = m .mapname;
-      mapregister = mapregister;
-      mapvalid = mapvalid;
-      physical = physical;
-      values = values;
-      registerhead = following;
-      registerlink = registerlink;
-      namehead = m .namehead;
-      namelink = m .namelink;
-      fetch = m .fetch;
-      next = m .next;
-      halt = m .halt;
-    })
-    (learned position register result m)
+    → changeAll (wakeEntry (e .name) register)
+    (withMap (m .mapname) mapregister mapvalid (withPhysical physical (withValues values (withFreeRegisters following registerlink (place position done m)))))
+    ≡ learned position register result m
 unfolding learned
 learned-is m position register result done shown following mapregister physical values registerlink mapvalid a b c d f g h i = rw (a, c, d, b, f, g, h, i)
 
@@ -201,25 +167,7 @@ module _ (position next : ℕ) (m : Machine) where
   wrongly-predicted h = rw (ne-eqb next (entryAt m position .predicted) h)
 
 pub refetched-is : (position next : ℕ) (m k : Machine) (mended : Entry) → k ≡ m → mended ≡ predictedEntry next (entryAt k position)
-    → _≡_ {A = Machine}
-    (record {
-      setup = k .setup;
-      count = k .count;
-      entries = set (k .entries) position mended;
-      mapname = k .mapname;
-      mapregister = k .mapregister;
-      mapvalid = k .mapvalid;
-      physical = k .physical;
-      values = k .values;
-      registerhead = k .registerhead;
-      registerlink = k .registerlink;
-      namehead = k .namehead;
-      namelink = k .namelink;
-      fetch = next;
-      next = k .next;
-      halt = k .halt;
-    })
-    (refetched position next m)
+    → withFetch next (place position mended k) ≡ refetched position next m
 unfolding refetched
 refetched-is position next m k mended h e = rw (e, h)
 

@@ -13,6 +13,7 @@ use Rattle.reference.specs.Step.{when, first}
 use Rattle.tables.specs.Table.{lookUp, storeUnder}
 use Rattle.tables.specs.declared.Entry.{Entry}
 use Rattle.machine.specs.declared.Machine.{Machine}
+use Rattle.machine.specs.Setters.{withMap, withFreeNames}
 use Rattle.machine.specs.Call.{halted, lentRefusal, answered, inTurn}
 use Rattle.decoding.specs.Decode.{decodeRefusal, enteringCause, endedEntry, startedEntry, entryFor, renamed, appended, enter, decoded, decodeWithin, decodeOf}
 use Rattle.machine.proofs.RefusalLaws.{passed, own-next}
@@ -45,25 +46,7 @@ pub renamed-is : (m : Machine) (d name : ℕ) (mapname mapregister namelink : Li
     → following ≡ lookUp (m .namelink) (m .namehead)
     → namehead ≡ choose (eqb d 0) (m .namehead) following
     → namelink ≡ storeUnder (m .namelink) name 0
-    → _≡_ {A = Machine}
-    (record {
-      setup = m .setup;
-      count = m .count;
-      entries = m .entries;
-      mapname = mapname;
-      mapregister = mapregister;
-      mapvalid = mapvalid;
-      physical = m .physical;
-      values = m .values;
-      registerhead = m .registerhead;
-      registerlink = m .registerlink;
-      namehead = namehead;
-      namelink = namelink;
-      fetch = m .fetch;
-      next = m .next;
-      halt = m .halt;
-    })
-    (renamed d name m)
+    → withFreeNames namehead namelink (withMap mapname mapregister mapvalid m) ≡ renamed d name m
 renamed-is m d name mapname mapregister namelink mapvalid following namehead a b c e f g = rw (a, b, c, f, e, g)
 
 -- an entry enters

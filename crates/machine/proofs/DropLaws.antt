@@ -5,16 +5,17 @@ use mathlib.Core.Bool.{Bool, not}
 use mathlib.Core.List.{List}
 use native.Mathlib.Omega.{arith}
 use lib.Dec.{eqb}
-use lib.ListN.{getD, set}
 use Rattle.tables.specs.Table.{lookUp, storeUnder}
 use Rattle.tables.specs.FreeList.{freedHead, freedLink}
 use Rattle.tables.specs.Entry.{emptyEntry, held}
 use Rattle.tables.specs.declared.Entry.{Entry}
 use Rattle.machine.specs.declared.Machine.{Machine}
+use Rattle.machine.specs.Setters.{withCount, withMap, withPhysical, withFreeRegisters, withFreeNames}
+use Rattle.machine.specs.Changes.{entryAt, place}
 use Rattle.machine.specs.Drop.{dropYoungest, dropMany, dropTo}
 
 abbrev pub youngest : Machine → Entry
-youngest m = getD (m .entries) (m .count - 1) emptyEntry
+youngest m = entryAt m (m .count - 1)
 
 pub record Parts (m : Machine) (empty : Entry) (register registerhead namehead back : ℕ) (registerlink namelink physical mapname mapregister : List ℕ) (mapvalid : List Bool) : Type 0 where
   pub isempty : empty ≡ emptyEntry
@@ -31,25 +32,8 @@ pub record Parts (m : Machine) (empty : Entry) (register registerhead namehead b
 
 pub dropped : (m : Machine) (empty : Entry) (register registerhead namehead back : ℕ) (registerlink namelink physical mapname mapregister : List ℕ) (mapvalid : List Bool)
     → Parts m empty register registerhead namehead back registerlink namelink physical mapname mapregister mapvalid
-    → _≡_ {A = Machine}
-    (record {
-      setup = m .setup;
-      count = m .count - 1;
-      entries = set (m .entries) (m .count - 1) empty;
-      mapname = mapname;
-      mapregister = mapregister;
-      mapvalid = mapvalid;
-      physical = physical;
-      values = m .values;
-      registerhead = registerhead;
-      registerlink = registerlink;
-      namehead = namehead;
-      namelink = namelink;
-      fetch = m .fetch;
-      next = m .next;
-      halt = m .halt;
-    })
-    (dropYoungest m)
+    → withFreeRegisters registerhead registerlink (withFreeNames namehead namelink (withMap mapname mapregister mapvalid (withPhysical physical (withCount (m .count - 1) (place (m .count - 1) empty m)))))
+    ≡ dropYoungest m
 unfolding dropYoungest
 dropped m empty register registerhead namehead back registerlink namelink physical mapname mapregister mapvalid p =
     rw (p .isempty, p .isregisterhead, p .isregisterlink, p .isregister, p .ismapname, p .ismapregister, p .ismapvalid, p .isback, p .isphysical, p .isnamehead, p .isnamelink)

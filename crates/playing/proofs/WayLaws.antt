@@ -21,8 +21,8 @@ use Rattle.tables.specs.Entry.{emptyEntry, isCompleted, completedEntry, wakeEnt
 use Rattle.tables.specs.declared.Entry.{Entry}
 use Rattle.formats.specs.declared.Record.{Record}
 use Rattle.machine.specs.Call.{halted, noEntry, lentRefusal}
-use Rattle.machine.specs.Changes.{entryAt, place, changeFirst}
-use Rattle.machine.specs.Setters.{withEntries}
+use Rattle.machine.specs.Changes.{entryAt, place, changeFirst, changeAll}
+use Rattle.machine.specs.Setters.{withCount, withEntries, withMap, withPhysical, withValues, withFreeRegisters, withFreeNames, withFetch, withNext}
 use Rattle.machine.specs.declared.Machine.{Machine}
 use Rattle.machine.specs.declared.Answer.{Answer}
 use Rattle.machine.proofs.RefusalLaws.{answered-next}
@@ -57,25 +57,7 @@ entered-here : (m : Machine) (e : Entry) (mapname mapregister namelink : List �
     → following ≡ lookUp (m .namelink) (m .namehead)
     → namehead ≡ choose (eqb (e .destination) 0) (m .namehead) following
     → namelink ≡ storeUnder (m .namelink) (e .name) 0
-    → _≡_ {A = Machine}
-    (record {
-      setup = m .setup;
-      count = m .count + 1;
-      entries = set (m .entries) (m .count) e;
-      mapname = mapname;
-      mapregister = mapregister;
-      mapvalid = mapvalid;
-      physical = m .physical;
-      values = m .values;
-      registerhead = m .registerhead;
-      registerlink = m .registerlink;
-      namehead = namehead;
-      namelink = namelink;
-      fetch = e .predicted;
-      next = m .next;
-      halt = m .halt;
-    })
-    (enter e m)
+    → withFetch (e .predicted) (withCount (m .count + 1) (place (m .count) e (withFreeNames namehead namelink (withMap mapname mapregister mapvalid m)))) ≡ enter e m
 entered-here m e mapname mapregister namelink mapvalid following namehead a b c d f g =
     rw add-one (entered m _ e (renamed-is m (e .destination) (e .name) mapname mapregister namelink mapvalid following namehead a b c d f g))
 
@@ -120,25 +102,7 @@ module _ {program start schedule : List ℕ} {left index : ℕ} {m : Machine} {m
       → following ≡ lookUp (m .namelink) (m .namehead)
       → namehead ≡ choose (eqb (e .destination) 0) (m .namehead) following
       → namelink ≡ storeUnder (m .namelink) (e .name) 0
-      → reaching
-      (record {
-        setup = m .setup;
-        count = m .count + 1;
-        entries = set (m .entries) (m .count) e;
-        mapname = mapname;
-        mapregister = mapregister;
-        mapvalid = mapvalid;
-        physical = m .physical;
-        values = m .values;
-        registerhead = m .registerhead;
-        registerlink = m .registerlink;
-        namehead = namehead;
-        namelink = namelink;
-        fetch = e .predicted;
-        next = m .next;
-        halt = m .halt;
-      })
-      memory after
+      → reaching (withFetch (e .predicted) (withCount (m .count + 1) (place (m .count) e (withFreeNames namehead namelink (withMap mapname mapregister mapvalid m))))) memory after
       ≡ played program r (reaching m memory counts)
   unfolding decodeWithin
   decode-way d added e mapname mapregister namelink mapvalid following namehead is a b c f x h =
@@ -198,23 +162,8 @@ module _ {program start schedule : List ℕ} {left index : ℕ} {m : Machine} {m
       → registerlink ≡ takenLink (m .registerlink) (m .registerhead)
       → (k : Machine)
       → k
-      ≡ record {
-        setup = m .setup;
-        count = m .count;
-        entries = changeFirst (m .count) (wakeEntry (e .name) (m .registerhead)) (set (m .entries) (r .position) done);
-        mapname = m .mapname;
-        mapregister = mapregister;
-        mapvalid = mapvalid;
-        physical = physical;
-        values = values;
-        registerhead = following;
-        registerlink = registerlink;
-        namehead = m .namehead;
-        namelink = m .namelink;
-        fetch = m .fetch;
-        next = m .next;
-        halt = m .halt;
-      }
+      ≡ changeAll (wakeEntry (e .name) (m .registerhead))
+      (withMap (m .mapname) mapregister mapvalid (withPhysical physical (withValues values (withFreeRegisters following registerlink (place (r .position) done m)))))
       → reaching k memory after ≡ played program r (reaching m memory counts)
   learn-way there i added o is s some free done shown following mapregister physical values registerlink mapvalid a b c d f x h j k e =
       let position : ℕ = r .position in
@@ -251,64 +200,14 @@ pub retired-here : (m k : Machine) (e : Entry) (last register registerhead nameh
     → namehead ≡ freedHead (m .namehead) (e .previous)
     → namelink ≡ freedLink (m .namelink) (m .namehead) (e .previous)
     → empty ≡ emptyEntry
-    → let freed : Machine = record {
-      setup = m .setup;
-      count = m .count;
-      entries = m .entries;
-      mapname = m .mapname;
-      mapregister = m .mapregister;
-      mapvalid = m .mapvalid;
-      physical = physical;
-      values = m .values;
-      registerhead = registerhead;
-      registerlink = registerlink;
-      namehead = namehead;
-      namelink = namelink;
-      fetch = m .fetch;
-      next = e .predicted;
-      halt = m .halt;
-    } in
-    k ≡ withEntries (shifted last (m .entries)) freed
-    → _≡_ {A = Machine}
-    (record {
-      setup = k .setup;
-      count = k .count - 1;
-      entries = set (k .entries) last empty;
-      mapname = k .mapname;
-      mapregister = k .mapregister;
-      mapvalid = k .mapvalid;
-      physical = k .physical;
-      values = k .values;
-      registerhead = k .registerhead;
-      registerlink = k .registerlink;
-      namehead = k .namehead;
-      namelink = k .namelink;
-      fetch = k .fetch;
-      next = k .next;
-      halt = k .halt;
-    })
-    (retired m)
+    → k ≡ withEntries (shifted last (m .entries)) (withNext (e .predicted) (withFreeNames namehead namelink (withFreeRegisters registerhead registerlink (withPhysical physical m))))
+    → withCount (k .count - 1) (place last empty k) ≡ retired m
 retired-here m k e last register registerhead namehead registerlink physical namelink empty some room at l a b c d f g z h =
     retired-is m (withEntries (set (k .entries) last empty) k) register registerhead namehead registerlink physical namelink
     (a ∙ ap (λ (x : Entry). lookUp (m .physical) (x .previous)) at) b c (d ∙ ap (λ (x : Entry). storeUnder (m .physical) (x .previous) 0) at)
     (f ∙ ap (λ (x : Entry). freedHead (m .namehead) (x .previous)) at) (g ∙ ap (λ (x : Entry). freedLink (m .namelink) (m .namehead) (x .previous)) at)
-    (shift-done _ k last empty some l room h z ∙ ap (λ (x : Entry). withEntries (moveDown (m .count) (m .entries)) (record {
-      setup = m .setup;
-      count = m .count;
-      entries = m .entries;
-      mapname = m .mapname;
-      mapregister = m .mapregister;
-      mapvalid = m .mapvalid;
-      physical = physical;
-      values = m .values;
-      registerhead = registerhead;
-      registerlink = registerlink;
-      namehead = namehead;
-      namelink = namelink;
-      fetch = m .fetch;
-      next = x .predicted;
-      halt = m .halt;
-    })) at)
+    (shift-done _ k last empty some l room h z
+    ∙ ap (λ (x : Entry). withEntries (moveDown (m .count) (m .entries)) (withNext (x .predicted) (withFreeNames namehead namelink (withFreeRegisters registerhead registerlink (withPhysical physical m))))) at)
 
 -- the loops over the entries, at their start and at their end
 pub wakes-none : (m : Machine) (f : Entry → Entry) → m ≡ withEntries (changeFirst 0 f (m .entries)) m
