@@ -20,7 +20,8 @@ use Rattle.machine.specs.Call.{halted, noEntry, lengthsDiffer, lentRefusal, inT
 use Rattle.machine.specs.Changes.{entryAt}
 use Rattle.decoding.specs.Decode.{decodeRefusal, decoded, decodeOf}
 use Rattle.issuing.specs.Issue.{storeBelow, unready, issueRefusal, issued, issueOf}
-use Rattle.completing.specs.Complete.{outcomeAt, victimOf, noVictim, needsRegister, noneFree, completeRefusal, completed, completeOf}
+use Rattle.completing.specs.Complete.{outcomeAt, needsRegister, noneFree, completeRefusal, completed, completeOf}
+use Rattle.stealing.specs.Steal.{victimOf, noVictim}
 use Rattle.committing.specs.Commit.{commitRefusal, commitBy, commitOf}
 use Rattle.machine.specs.declared.Machine.{Machine}
 use Rattle.machine.specs.declared.Answer.{Answer}

@@ -13,7 +13,8 @@ use Rattle.tables.specs.Entry.{emptyEntry, held, completedEntry, stoppedEntry, 
 use Rattle.tables.specs.declared.State.the-variants.{Issued, Completed}
 use Rattle.tables.specs.declared.Entry.{Entry}
 use Rattle.machine.specs.Changes.{entryAt, place}
-use Rattle.completing.specs.Complete.{outcomeAt, robbed, learned, redirected}
+use Rattle.completing.specs.Complete.{outcomeAt, learned, redirected}
+use Rattle.stealing.specs.Steal.{robbed}
 use Rattle.machine.specs.declared.Machine.{Machine}
 use Rattle.agreement.proofs.Core.{Core, coreOf, informEntry, putHead, placed, release, learn, redirect}
 use Rattle.agreement.proofs.Ghost.{Ghost}

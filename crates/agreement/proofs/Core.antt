@@ -1,11 +1,9 @@
 -- The machine as the theorem sees it: its entries as a list, without the valid bits; and the changes that calls are made of.
 use Prim.Native.Nat.{ℕ, zero, suc, _+_, _-_}
-use mathlib.Core.Bool.{Bool, true, false}
 use mathlib.Core.List.{List, [], _∷_, _++_, map}
 use lib.Dec.{eqb}
 use lib.ListN.{length, getD, set, take, drop}
 use Rattle.isa.specs.Reads.{choose}
-use Rattle.execution.specs.Execute.{stop}
 use Rattle.execution.specs.declared.Stop.{Stop}
 use Rattle.tables.specs.Entry.{emptyEntry, withOperands, waitingEntry, completedEntry, predictedEntry}
 use Rattle.tables.specs.declared.Operand.{Operand}

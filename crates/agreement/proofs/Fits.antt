@@ -13,7 +13,8 @@ use Rattle.machine.specs.Changes.{entryAt, place}
 use Rattle.machine.specs.Drop.{dropTo}
 use Rattle.decoding.specs.Decode.{entryFor}
 use Rattle.issuing.specs.Issue.{issued}
-use Rattle.completing.specs.Complete.{outcomeAt, robbed, learned}
+use Rattle.completing.specs.Complete.{outcomeAt, learned}
+use Rattle.stealing.specs.Steal.{robbed}
 use Rattle.committing.specs.Commit.{retired}
 use Rattle.machine.specs.declared.Setup.{Setup}
 use Rattle.machine.specs.declared.Machine.{Machine}

@@ -15,14 +15,15 @@ use Rattle.tables.specs.Entry.{emptyEntry, completedEntry, waitingEntry, sleepE
 use Rattle.tables.specs.declared.Entry.{Entry}
 use Rattle.tables.proofs.TableLaws.{store-length}
 use Rattle.machine.specs.SetUp.{freshMachine, risingNext, risingLink, ownNumbers}
-use Rattle.machine.specs.Changes.{place, entryAt}
+use Rattle.machine.specs.Changes.{place, entryAt, shows}
 use Rattle.decoding.specs.Decode.{enter}
 use Rattle.machine.specs.Drop.{dropYoungest, dropMany, dropTo}
-use Rattle.completing.specs.Complete.{shows, robbed, learned, refetched, redirected}
+use Rattle.completing.specs.Complete.{learned, refetched, redirected}
+use Rattle.stealing.specs.Steal.{robbed}
 use Rattle.committing.specs.Commit.{haltedBy, moveDown, retired}
 use Rattle.machine.specs.declared.Machine.{Machine}
 use Rattle.machine.proofs.TabulateLaws.{tabulate-length}
-use Rattle.completing.proofs.CompleteLaws.{change-length}
+use Rattle.machine.proofs.ChangeLaws.{change-length}
 
 -- a valid bit says that the general map shows a register
 abbrev pub Valid : List Bool → List ℕ → Type 0

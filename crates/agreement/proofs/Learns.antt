@@ -13,7 +13,8 @@ use Rattle.tables.specs.Entry.{emptyEntry, held, completedEntry, waitingEntry, 
 use Rattle.tables.specs.declared.Entry.{Entry}
 use Rattle.tables.proofs.TableLaws.{look-within, look-zero, store-within, store-zero}
 use Rattle.machine.specs.Changes.{entryAt, changeFirst}
-use Rattle.completing.specs.Complete.{robbed, learned}
+use Rattle.completing.specs.Complete.{learned}
+use Rattle.stealing.specs.Steal.{robbed}
 use Rattle.machine.specs.declared.Machine.{Machine}
 use Rattle.agreement.proofs.Core.{Core, coreOf, informEntry, putHead, putLink, reshown, release, learn}
 use Rattle.agreement.proofs.Stores.{wake-entry, sleep-entry, first-changed, map-alike}

@@ -17,10 +17,11 @@ use Rattle.machine.specs.Changes.{entryAt, place}
 use Rattle.machine.specs.Drop.{dropYoungest, dropMany, dropTo}
 use Rattle.decoding.specs.Decode.{enteringCause, startedEntry, endedEntry, enter, decoded}
 use Rattle.issuing.specs.Issue.{issued}
-use Rattle.completing.specs.Complete.{outcomeAt, victimOf, noneFree, registerFor, suppliedFor, robbed, learned, registered, refetched, redirected, completed}
+use Rattle.completing.specs.Complete.{outcomeAt, noneFree, registerFor, suppliedFor, learned, registered, refetched, redirected, completed}
+use Rattle.stealing.specs.Steal.{victimOf, robbed}
 use Rattle.machine.specs.declared.Machine.{Machine}
 use Rattle.machine.proofs.DropLaws.{drop-count}
-use Rattle.completing.proofs.CompleteLaws.{change-length}
+use Rattle.machine.proofs.ChangeLaws.{change-length}
 use Rattle.agreement.proofs.Turns.{At}
 use Rattle.agreement.proofs.Tests.{by-choice}
 use Rattle.agreement.proofs.Views.{drops-count}

@@ -20,7 +20,8 @@ use Rattle.tables.specs.declared.Entry.{Entry}
 use Rattle.machine.specs.Changes.{entryAt, place}
 use Rattle.machine.specs.Drop.{dropTo}
 use Rattle.decoding.specs.Decode.{entryFor}
-use Rattle.completing.specs.Complete.{outcomeAt, robbed, learned}
+use Rattle.completing.specs.Complete.{outcomeAt, learned}
+use Rattle.stealing.specs.Steal.{robbed}
 use Rattle.committing.specs.Commit.{haltedBy}
 use Rattle.machine.specs.declared.Machine.{Machine}
 use Rattle.agreement.specs.Lists.{Call, decode, issue, complete, commit, Event, World, Made, madeBy, make, makeAll, isCommit, callIn, acceptedCommit, acceptedCommits}

@@ -11,9 +11,10 @@ use Rattle.tables.specs.declared.Entry.{Entry}
 use Rattle.machine.specs.Changes.{entryAt, place}
 use Rattle.machine.specs.Drop.{dropYoungest, dropMany, dropTo}
 use Rattle.issuing.specs.Issue.{issued}
-use Rattle.completing.specs.Complete.{outcomeAt, victimOf, noneFree, registerFor, suppliedFor, robbed, learned, registered, refetched, redirected, completed}
+use Rattle.completing.specs.Complete.{outcomeAt, noneFree, registerFor, suppliedFor, learned, registered, refetched, redirected, completed}
+use Rattle.stealing.specs.Steal.{victimOf, robbed}
 use Rattle.machine.specs.declared.Machine.{Machine}
-use Rattle.completing.proofs.CompleteLaws.{change-length}
+use Rattle.machine.proofs.ChangeLaws.{change-length}
 use Rattle.agreement.proofs.Tests.{by-choice}
 
 pub record Shrinks (a b : Machine) : Type 0 where

@@ -6,7 +6,7 @@ use mathlib.Core.List.{List, [], _∷_, map}
 use native.Mathlib.Omega.{arith}
 use borrow.Author.Tests.{ne-eqb, eqb-true}
 use lib.Dec.{eqb}
-use lib.ListN.{length, getD, set, take}
+use lib.ListN.{getD, set, take}
 use lib.Seq.{set-getD}
 use Rattle.isa.specs.Reads.{choose}
 use Rattle.tables.specs.Table.{lookUnder, lookUp, storeUnder}

@@ -14,7 +14,7 @@ use Rattle.tables.specs.Entry.{emptyEntry, heldIn, held}
 use Rattle.tables.specs.declared.State.{State as Stage}
 use Rattle.tables.specs.declared.State.the-variants.{Waits, Issued, Completed}
 use Rattle.tables.specs.declared.Entry.{Entry}
-use Rattle.completing.specs.Complete.{victimAmong}
+use Rattle.stealing.specs.Steal.{victimAmong}
 use Rattle.agreement.proofs.Tests.{equal, apart, eq?}
 use Rattle.agreement.proofs.Stores.{look-get}
 

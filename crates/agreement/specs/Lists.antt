@@ -16,9 +16,8 @@ use Rattle.machine.specs.Changes.{entryAt}
 use Rattle.decoding.specs.Decode.{decodeOf}
 use Rattle.issuing.specs.Issue.{issueOf}
 use Rattle.completing.specs.Complete.{completeOf}
-use Rattle.committing.specs.Commit.{Commit, commitOf}
+use Rattle.committing.specs.Commit.{commitOf}
 use Rattle.machine.specs.declared.Machine.{Machine}
-use Rattle.machine.specs.declared.Answer.{Answer}
 
 -- a call, by its guess or position
 pub data Call : Type 0 where

@@ -1,31 +1,26 @@
 -- What the events of a schedule that is not refused come to.
-use Prim.Native.Nat.{ℕ, _+_, _≤_, _<_, _/_}
-use mathlib.Core.Path.{_≡_, refl, sym, ap, subst, _∙_}
-use mathlib.Core.Bool.{true, false}
+use Prim.Native.Nat.{ℕ, _≤_}
+use mathlib.Core.Path.{_≡_, sym, ap, subst, _∙_}
+use mathlib.Core.Bool.{true}
 use mathlib.Core.List.{List}
 use native.Mathlib.Omega.{arith}
 use borrow.Author.Tests.{eq-eqb, ne-eqb}
-use lib.Dec.{eqb}
 use lib.ListN.{length}
-use Rattle.isa.specs.Reads.{choose}
 use Rattle.machine.specs.SetUp.{freshMachine, setUpRefusal, setUpOf}
 use Rattle.machine.specs.Report.{reportOf}
-use Rattle.machine.specs.declared.Machine.{Machine}
 use Rattle.machine.specs.declared.Answer.{Answer}
 use Rattle.machine.specs.declared.Report.{Report}
-use Rattle.formats.specs.Schedule.{records, windowIn, registersIn, scheduleFits}
-use Rattle.formats.specs.Chain.{scheduleRefusal, eventsOf}
+use Rattle.formats.specs.Schedule.{windowIn, registersIn, scheduleFits}
+use Rattle.formats.specs.Chain.{eventsOf}
 use Rattle.formats.specs.Result.{rateOf, resultBytes}
-use Rattle.formats.specs.Statement.{Statement}
 use Rattle.formats.proofs.Laws.{statement as chain-laws}
 use Rattle.formats.proofs.HeadLaws.{at-least, at-most}
 use Rattle.events.specs.Counts.{Played}
 use Rattle.events.specs.Numbers.{playedBy}
 use Rattle.events.specs.Play.{Ready, playedFrom, playedOf}
-use Rattle.events.specs.Statement.{Statement as Events}
 use Rattle.events.specs.declared.Played.{Played as Ended}
 use Rattle.events.proofs.Laws.{statement as event-laws}
-use Rattle.bench.specs.Replay.{replayRefusal, figuresOf, wordsOf, nothing, Replay, replayBy, replayOf}
+use Rattle.bench.specs.Replay.{replayRefusal, figuresOf, wordsOf, nothing, replayOf}
 use Rattle.bench.specs.declared.Replayed.{Replayed}
 use Rattle.bench.proofs.RefusalLaws.{Unrefused, unrefused, head-fits}
 

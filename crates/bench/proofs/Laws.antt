@@ -2,7 +2,6 @@
 use Prim.Native.Nat.{ℕ}
 use mathlib.Core.Path.{_≡_, sym, subst}
 use mathlib.Core.List.{List}
-use lib.ListN.{length}
 use Rattle.reference.specs.Run.{runOf}
 use Rattle.agreement.specs.Lists.{World, acceptedCommits, origin}
 use Rattle.agreement.specs.Statement.{Agrees}

@@ -4,7 +4,7 @@ use mathlib.Core.Path.{_≡_}
 use mathlib.Core.List.{List}
 use lib.ListN.{length}
 use Rattle.reference.specs.Run.{runOf}
-use Rattle.agreement.specs.Lists.{World, acceptedCommits, origin}
+use Rattle.agreement.specs.Lists.{acceptedCommits, origin}
 use Rattle.agreement.specs.Statement.{Agrees}
 use Rattle.formats.specs.Chain.{eventsOf}
 use Rattle.events.specs.Counts.{Played}

@@ -1,14 +1,12 @@
 -- Commit, put together from its parts.
 use Prim.Native.Nat.{ℕ, zero, suc, _+_, _-_, _≤_, _<_}
 use mathlib.Core.Path.{_≡_, refl, sym, ap, _∙_}
-use mathlib.Core.Bool.{Bool, true, false, not}
+use mathlib.Core.Bool.{true, false, not}
 use mathlib.Core.List.{List, [], _∷_, _++_, map}
 use native.Mathlib.Omega.{arith}
 use native.Mathlib.Numerals.{add-one}
 use borrow.Author.Tests.{eq-eqb, ne-eqb, leb-false}
-use lib.Dec.{eqb}
 use lib.ListN.{length, getD, set, take, drop, length-map}
-use Rattle.isa.specs.Reads.{choose}
 use Rattle.execution.specs.Memory.{stored}
 use Rattle.reference.specs.Step.{when, first}
 use Rattle.execution.specs.declared.Stop.{Stop}
@@ -17,12 +15,10 @@ use Rattle.tables.specs.FreeList.{freedHead, freedLink}
 use Rattle.tables.specs.Entry.{emptyEntry, isCompleted}
 use Rattle.tables.specs.declared.Entry.{Entry}
 use Rattle.machine.specs.declared.Machine.{Machine}
-use Rattle.machine.specs.declared.Answer.{Answer}
-use Rattle.machine.specs.Call.{halted, noEntry, lentRefusal, inTurn}
+use Rattle.machine.specs.Call.{halted, noEntry, lentRefusal}
 use Rattle.machine.specs.Changes.{entryAt}
 use Rattle.machine.specs.Setters.{withCount, withEntries, withPhysical, withFreeRegisters, withFreeNames, withNext, withHalt}
-use Rattle.machine.specs.Drop.{dropTo}
-use Rattle.committing.specs.Commit.{commitRefusal, haltedBy, moveDown, retired, stoppedWith, committed, writtenBy, Commit, commitBy, commitWithin, commitOf}
+use Rattle.committing.specs.Commit.{commitRefusal, haltedBy, moveDown, retired, stoppedWith, commitBy, commitWithin, commitOf}
 use Rattle.machine.proofs.RefusalLaws.{passed, own-next}
 
 -- the length of an array of structs: what is known of it stands at what its elements are made of

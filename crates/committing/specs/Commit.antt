@@ -1,6 +1,6 @@
 -- Commit.
 use Prim.Native.Nat.{ℕ, _-_}
-use mathlib.Core.Bool.{Bool, not}
+use mathlib.Core.Bool.{not}
 use mathlib.Core.List.{List, [], _∷_, _++_}
 use lib.Dec.{eqb}
 use lib.ListN.{take, drop}
@@ -11,7 +11,7 @@ use Rattle.execution.specs.declared.Stop.{Stop}
 use Rattle.tables.specs.Table.{lookUp}
 use Rattle.tables.specs.Entry.{emptyEntry, isCompleted}
 use Rattle.tables.specs.declared.Entry.{Entry}
-use Rattle.machine.specs.Call.{halted, noEntry, lentRefusal, inTurn, answered}
+use Rattle.machine.specs.Call.{halted, noEntry, lentRefusal, inTurn}
 use Rattle.machine.specs.Setters.{withCount, withEntries, withNext, withHalt}
 use Rattle.machine.specs.Changes.{entryAt, freeRegister, freeName}
 use Rattle.machine.specs.Drop.{dropTo}

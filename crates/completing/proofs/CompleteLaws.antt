@@ -1,97 +1,26 @@
 -- Complete, put together from its parts.
-use Prim.Native.Nat.{ℕ, zero, suc, _+_, _-_, _≤_, _<_}
-use mathlib.Core.Path.{_≡_, refl, sym, ap, _∙_}
+use Prim.Native.Nat.{ℕ, suc, _-_, _<_}
+use mathlib.Core.Path.{_≡_, refl, ap, _∙_}
 use mathlib.Core.Bool.{Bool, true, false, not, _&&_, _||_}
 use mathlib.Core.List.{List, [], _∷_}
-use native.Mathlib.Omega.{arith}
-use native.Mathlib.Numerals.{add-one}
 use borrow.Author.Tests.{eq-eqb, ne-eqb, leb-false}
-use lib.Dec.{leb, eqb}
-use lib.ListN.{length, getD, set}
+use lib.Dec.{eqb}
 use Rattle.isa.specs.Reads.{choose}
 use Rattle.reference.specs.Step.{when, first}
 use Rattle.execution.specs.declared.Outcome.{Outcome}
 use Rattle.tables.specs.Table.{lookUp, storeUnder}
 use Rattle.tables.specs.FreeList.{takenHead, takenLink}
-use Rattle.tables.specs.Entry.{emptyEntry, isIssued, stoppedEntry, completedEntry, waitingEntry, predictedEntry, wakeEntry, sleepEntry, held}
+use Rattle.tables.specs.Entry.{isIssued, stoppedEntry, completedEntry, predictedEntry, wakeEntry, held}
 use Rattle.tables.specs.declared.Entry.{Entry}
 use Rattle.machine.specs.declared.Machine.{Machine}
 use Rattle.machine.specs.Call.{halted, noEntry, lentRefusal, answered}
-use Rattle.machine.specs.Changes.{entryAt, place, changeFirst, changeAll}
-use Rattle.machine.specs.Setters.{withEntries, withMap, withPhysical, withValues, withFreeRegisters, withFetch}
+use Rattle.machine.specs.Changes.{entryAt, place, changeAll}
+use Rattle.machine.specs.Setters.{withMap, withPhysical, withValues, withFreeRegisters, withFetch}
 use Rattle.machine.specs.Drop.{dropTo}
-use Rattle.completing.specs.Complete.{outcomeAt, victimAmong, victimOf, noVictim, needsRegister, noneFree, completeRefusal, shows, robbed, registerFor, suppliedFor, learned, registered, refetched, redirected, finished, completed, completeWithin, completeOf}
+use Rattle.completing.specs.Complete.{needsRegister, noneFree, completeRefusal, registerFor, suppliedFor, learned, registered, refetched, redirected, finished, completed, completeWithin, completeOf}
+use Rattle.stealing.specs.Steal.{victimOf, noVictim, robbed}
 use Rattle.machine.proofs.RefusalLaws.{passed, own-next}
-
--- a loop over the first elements
-pub change-none : {A : Type 0} (f : A → A) (elements : List A) → elements ≡ changeFirst 0 f elements
-unfolding changeFirst
-change-none f elements = refl
-
-pub change-more : {A : Type 0} (f : A → A) (default : A) (n : ℕ) (elements : List A)
-    → set (changeFirst n f elements) n (f (getD (changeFirst n f elements) n default)) ≡ changeFirst (suc n) f elements
-unfolding changeFirst
-change-more f default zero [] = refl
-change-more f default zero (e ∷ elements) = refl
-change-more f default (suc n) [] = refl
-change-more f default (suc n) (e ∷ elements) = ap (λ (rest : List _). f e ∷ rest) (change-more f default n elements)
-
-pub change-length : {A : Type 0} (f : A → A) (n : ℕ) (elements : List A) → length (changeFirst n f elements) ≡ length elements
-unfolding changeFirst
-change-length f zero elements = refl
-change-length f (suc n) [] = refl
-change-length f (suc n) (e ∷ elements) = ap suc (change-length f n elements)
-
--- one turn of such a loop, on the machine
-pub change-turn : (m k : Machine) (f : Entry → Entry) (n : ℕ) (e : Entry) → k ≡ withEntries (changeFirst n f (m .entries)) m → e ≡ f (getD (k .entries) n emptyEntry)
-    → withEntries (set (k .entries) n e) k ≡ withEntries (changeFirst (n + 1) f (m .entries)) m
-change-turn m k f n e h g =
-    ap (λ (x : Entry). withEntries (set (k .entries) n x) k) g
-    ∙ ap (λ (x : Machine). withEntries (set (x .entries) n (f (getD (x .entries) n emptyEntry))) x) h
-    ∙ ap (λ (entries : List Entry). withEntries entries m) (change-more f emptyEntry n (m .entries) ∙ ap (λ (j : ℕ). changeFirst j f (m .entries)) (sym (add-one n)))
-
--- the search for a victim
-module _ (physical : List ℕ) (entries : List Entry) (position : ℕ) where
-  pub victim-none : victimAmong 0 physical entries position ≡ position
-  unfolding victimAmong
-  victim-none = refl
-
-  pub victim-here : (n : ℕ) → (held physical (getD entries (position + suc n) emptyEntry) ≡ 0 → ⊥) → victimAmong (suc n) physical entries position ≡ position + suc n
-  unfolding victimAmong
-  victim-here n h = rw (ne-eqb (held physical (getD entries (position + suc n) emptyEntry)) 0 h)
-
-  pub victim-next : (n : ℕ) → held physical (getD entries (position + suc n) emptyEntry) ≡ 0 → victimAmong (suc n) physical entries position ≡ victimAmong n physical entries position
-  unfolding victimAmong
-  victim-next n h = rw (eq-eqb (held physical (getD entries (position + suc n) emptyEntry)) 0 h)
-
-  -- the same at an index of the search
-  pub found-at : (k : ℕ) → position < k → (held physical (getD entries k emptyEntry) ≡ 0 → ⊥) → victimAmong (k - position) physical entries position ≡ k
-  found-at k l h =
-      let n : k - position ≡ suc (k - position - 1) = omega arith in
-      let at : position + suc (k - position - 1) ≡ k = omega arith in
-      ap (λ (j : ℕ). victimAmong j physical entries position) n ∙ victim-here (k - position - 1) (λ z. h (ap (λ (j : ℕ). held physical (getD entries j emptyEntry)) (sym at) ∙ z)) ∙ at
-
-  pub passed-at : (k : ℕ) → position < k → held physical (getD entries k emptyEntry) ≡ 0
-      → victimAmong (k - position) physical entries position ≡ victimAmong (k - 1 - position) physical entries position
-  passed-at k l h =
-      let n : k - position ≡ suc (k - 1 - position) = omega arith in
-      let at : position + suc (k - 1 - position) ≡ k = omega arith in
-      ap (λ (j : ℕ). victimAmong j physical entries position) n ∙ victim-next (k - 1 - position) (ap (λ (j : ℕ). held physical (getD entries j emptyEntry)) at ∙ h)
-
-  pub none-at : (k : ℕ) → k ≤ position → victimAmong (k - position) physical entries position ≡ position
-  none-at k l = let n : k - position ≡ 0 = omega arith in ap (λ (j : ℕ). victimAmong j physical entries position) n ∙ victim-none
-
--- the victim waits again
-pub robbed-is : (m : Machine) (victim : ℕ) (again : Entry) (shown : ℕ) (mapregister physical : List ℕ) (mapvalid : List Bool)
-    → let e : Entry = entryAt m victim in
-    again ≡ waitingEntry e
-    → shown ≡ lookUp (m .mapname) (e .destination)
-    → mapregister ≡ choose (eqb shown (e .name)) (storeUnder (m .mapregister) (e .destination) 0) (m .mapregister)
-    → mapvalid ≡ choose (eqb shown (e .name)) (storeUnder (m .mapvalid) (e .destination) false) (m .mapvalid)
-    → physical ≡ storeUnder (m .physical) (e .name) 0
-    → changeAll (sleepEntry (e .name)) (withMap (m .mapname) mapregister mapvalid (withPhysical physical (place victim again m))) ≡ robbed victim m
-unfolding robbed
-robbed-is m victim again shown mapregister physical mapvalid a b c d f = rw (a, c, d, b, f)
+use Rattle.stealing.proofs.StealLaws.{robbed-count}
 
 -- the entry gets its register
 pub learned-is : (m : Machine) (position register result : ℕ) (done : Entry) (shown following : ℕ) (mapregister physical values registerlink : List ℕ) (mapvalid : List Bool)
@@ -109,23 +38,6 @@ pub learned-is : (m : Machine) (position register result : ℕ) (done : Entry) (
     ≡ learned position register result m
 unfolding learned
 learned-is m position register result done shown following mapregister physical values registerlink mapvalid a b c d f g h i = rw (a, c, d, b, f, g, h, i)
-
--- the victim is an entry
-victim-most : (n : ℕ) (physical : List ℕ) (entries : List Entry) (position : ℕ) → victimAmong n physical entries position ≤ position + n
-unfolding victimAmong
-victim-most zero physical entries position = omega arith
-victim-most (suc n) physical entries position = at (eqb (held physical (getD entries (position + suc n) emptyEntry)) 0) (victim-most n physical entries position)
-  where
-    at : (b : Bool) → victimAmong n physical entries position ≤ position + n → choose b (victimAmong n physical entries position) (position + suc n) ≤ position + suc n
-    at true h = omega arith
-    at false h = omega arith
-
-pub victim-within : (m : Machine) (position : ℕ) → position < m .count → victimOf m position < m .count
-victim-within m position h = omega (arith, victim-most (m .count - suc position) (m .physical) (m .entries) position)
-
-pub robbed-count : (victim : ℕ) (m : Machine) → robbed victim m .count ≡ m .count
-unfolding robbed
-robbed-count victim m = refl
 
 pub learned-count : (position register result : ℕ) (m : Machine) → learned position register result m .count ≡ m .count
 unfolding learned

@@ -1,23 +1,23 @@
 -- Complete.
-use Prim.Native.Nat.{ℕ, zero, suc, _+_, _-_}
-use mathlib.Core.Bool.{Bool, true, false, not, _&&_}
+use Prim.Native.Nat.{ℕ, suc}
+use mathlib.Core.Bool.{Bool, true, not, _&&_}
 use mathlib.Core.List.{List, [], _∷_}
 use lib.Dec.{eqb}
-use lib.ListN.{getD}
 use Rattle.isa.specs.Reads.{choose}
 use Rattle.execution.specs.Execute.{executed}
 use Rattle.reference.specs.Step.{when, first}
 use Rattle.execution.specs.declared.Outcome.{Outcome}
-use Rattle.tables.specs.Table.{lookUp, storeUnder}
+use Rattle.tables.specs.Table.{storeUnder}
 use Rattle.tables.specs.FreeList.{takenHead, takenLink}
-use Rattle.tables.specs.Entry.{emptyEntry, isIssued, stoppedEntry, completedEntry, waitingEntry, predictedEntry, wakeEntry, sleepEntry, held}
+use Rattle.tables.specs.Entry.{isIssued, stoppedEntry, completedEntry, predictedEntry, wakeEntry, held}
 use Rattle.tables.specs.declared.Entry.{Entry}
 use Rattle.machine.specs.Call.{halted, noEntry, lentRefusal, inTurn, answered}
-use Rattle.machine.specs.Setters.{withMap, withPhysical, withValues, withFreeRegisters, withFetch}
-use Rattle.machine.specs.Changes.{entryAt, place, changeAll}
+use Rattle.machine.specs.Setters.{withValues, withFreeRegisters, withFetch}
+use Rattle.machine.specs.Changes.{entryAt, place, changeAll, mapsLearn}
 use Rattle.machine.specs.Drop.{dropTo}
 use Rattle.machine.specs.declared.Machine.{Machine}
 use Rattle.machine.specs.declared.Answer.{Answer}
+use Rattle.stealing.specs.Steal.{victimOf, noVictim, robbed}
 
 -- "The result … and actual next address are found from the values read."
 abbrev pub outcomeOf : Machine → Entry → Outcome
@@ -25,18 +25,6 @@ outcomeOf m e = executed (m .setup .bytes) (e .instruction) (e .address) (e .fir
 
 abbrev pub outcomeAt : Machine → ℕ → Outcome
 outcomeAt m position = outcomeOf m (entryAt m position)
-
--- "the search runs from the youngest entry and ends at the first one that holds a register, if it is younger than the caller": of the n entries after the position; the position itself where none holds one
-unfoldable pub victimAmong : ℕ → List ℕ → List Entry → ℕ → ℕ
-victimAmong zero physical entries position = position
-victimAmong (suc n) physical entries position =
-    choose (eqb (held physical (getD entries (position + suc n) emptyEntry)) 0) (victimAmong n physical entries position) (position + suc n)
-
-abbrev pub victimOf : Machine → ℕ → ℕ
-victimOf m position = victimAmong (m .count - suc position) (m .physical) (m .entries) position
-
-abbrev pub noVictim : Machine → ℕ → Bool
-noVictim m position = eqb (victimOf m position) position
 
 -- "Otherwise a destination takes a free register."
 abbrev pub needsRegister : Machine → ℕ → Bool
@@ -55,23 +43,6 @@ completeRefusal position m =
     ∷ when (not (isIssued (entryAt m position .state))) 13
     ∷ when (needsRegister m position && noneFree m && noVictim m position) 16
     ∷ [])
-
--- whether the general map still shows a name under a logical register
-abbrev pub shows : Machine → ℕ → ℕ → Bool
-shows m d name = eqb (lookUp (m .mapname) d) name
-
--- both maps learn a name's register and valid bit, "the general map only if it still shows the name"
-abbrev pub mapsLearn : ℕ → ℕ → ℕ → Bool → Machine → Machine
-mapsLearn d name register valid m =
-    withMap (m .mapname) (choose (shows m d name) (storeUnder (m .mapregister) d register) (m .mapregister))
-    (choose (shows m d name) (storeUnder (m .mapvalid) d valid) (m .mapvalid))
-    (withPhysical (storeUnder (m .physical) name register) m)
-
--- "The victim becomes waiting, its name loses the register, the general map's valid bit falls if it still shows that name, and operands on it are waiting again in entries of every state."
-unfoldable pub robbed : ℕ → Machine → Machine
-robbed victim m =
-    let e : Entry = entryAt m victim in
-    changeAll (sleepEntry (e .name)) (mapsLearn (e .destination) (e .name) 0 false (place victim (waitingEntry e) m))
 
 -- the machine and the register with which an entry goes on: the head of the pool, or the victim's
 abbrev pub registerFor : Machine → ℕ → ℕ

@@ -5,7 +5,7 @@ ghost use Prim.Native.Nat.{_≤_, _<_};
 ghost use Rattle.machine.specs.Range.{machineInRange};
 ghost use Rattle.machine.specs.Changes.{changeAll};
 ghost use Rattle.completing.specs.Complete as Complete;
-ghost use Rattle.tables.specs.Entry.{wakeEntry, sleepEntry};
+ghost use Rattle.tables.specs.Entry.{wakeEntry};
 use execution::Outcome;
 use machine::Answer;
 use machine::Machine;
@@ -27,40 +27,6 @@ fn wake_all(mut machine: Machine, name: u8, register: u8) -> Machine
         k += 1;
     }
     machine
-}
-
-// operands on this name are waiting again
-fn sleep_all(mut machine: Machine, name: u8) -> Machine
-    requires { ⌜ machine .count ≤ 64 ⌝ }
-    ensures { λ r. ⌜ r ≡ changeAll (sleepEntry name) machine ⌝ }
-{
-    let count = machine.count as usize;
-    let mut k: usize = 0;
-    while k < count {
-        let e = machine.entries[k];
-        let asleep = entries::sleep(e, name);
-        machine.entries[k] = asleep;
-        k += 1;
-    }
-    machine
-}
-
-// the youngest entry that holds a register, if it is younger than the caller; else the caller's position
-fn victim(machine: Machine, position: usize) -> usize
-    requires { ⌜ (position < machine .count) × (machine .count ≤ 64) ⌝ }
-    ensures { λ r. ⌜ r ≡ Complete.victimOf machine position ⌝ }
-{
-    let mut k = machine.count as usize - 1;
-    loop {
-        if k <= position {
-            break position;
-        }
-        let e = machine.entries[k];
-        if entries::held(&machine.physical, e) != 0 {
-            break k;
-        }
-        k -= 1;
-    }
 }
 
 fn outcome_at(machine: Machine, position: usize) -> Outcome
@@ -105,25 +71,10 @@ fn complete_refusal(machine: Machine, position: usize) -> u8
     if supplied {
         return 0;
     }
-    if victim(machine, position) == position {
+    if stealing::victim(machine, position) == position {
         return 16;
     }
     0
-}
-
-// the victim waits again, and its name has no register any more
-fn robbed(mut machine: Machine, victim: usize) -> Machine
-    requires { ⌜ (victim < machine .count) × (machine .count ≤ 64) ⌝ }
-    ensures { λ r. ⌜ r ≡ Complete.robbed victim machine ⌝ }
-{
-    let e = machine.entries[victim];
-    let again = entries::waiting(e);
-    machine.entries[victim] = again;
-    let shown = maps::mapped(&machine.mapname, e.destination);
-    maps::map_where(&mut machine.mapregister, shown == e.name, e.destination, 0);
-    maps::valid_where(&mut machine.mapvalid, shown == e.name, e.destination, false);
-    maps::store_under(&mut machine.physical, e.name, 0);
-    sleep_all(machine, e.name)
 }
 
 // the entry is completed with a register, which gets the result
@@ -165,10 +116,10 @@ fn registered(mut machine: Machine, position: usize, result: u32) -> Machine
     if head != 0 {
         return learned(machine, position, head, result);
     }
-    let holder = victim(machine, position);
+    let holder = stealing::victim(machine, position);
     let owner = machine.entries[holder];
     let register = entries::held(&machine.physical, owner);
-    let supplied = robbed(machine, holder);
+    let supplied = stealing::robbed(machine, holder);
     learned(supplied, position, register, result)
 }
 

@@ -1,21 +1,21 @@
 -- Decode, put together from its parts.
 use Prim.Native.Nat.{ℕ, _<_}
-use mathlib.Core.Path.{_≡_, refl, sym, ap, _∙_}
+use mathlib.Core.Path.{_≡_, refl, ap}
 use mathlib.Core.Bool.{Bool, true, false, not}
 use mathlib.Core.List.{List, [], _∷_}
 use borrow.Author.Tests.{eq-eqb, ne-eqb, leb-false}
 use lib.Dec.{leb, eqb}
 use Rattle.isa.specs.Reads.{choose, none}
 use Rattle.isa.specs.declared.Instruction.{Instruction}
-use Rattle.reference.specs.Fetch.{FetchNumbers, noInstruction, fetchAt}
+use Rattle.reference.specs.Fetch.{FetchNumbers, noInstruction}
 use Rattle.execution.specs.Roles.{causeAtOnce}
 use Rattle.reference.specs.Step.{when, first}
 use Rattle.tables.specs.Table.{lookUp, storeUnder}
 use Rattle.tables.specs.declared.Entry.{Entry}
 use Rattle.machine.specs.declared.Machine.{Machine}
 use Rattle.machine.specs.Setters.{withMap, withFreeNames}
-use Rattle.machine.specs.Call.{halted, lentRefusal, answered, inTurn}
-use Rattle.decoding.specs.Decode.{decodeRefusal, enteringCause, endedEntry, startedEntry, entryFor, renamed, appended, enter, decoded, decodeWithin, decodeOf}
+use Rattle.machine.specs.Call.{halted, lentRefusal, answered}
+use Rattle.decoding.specs.Decode.{decodeRefusal, endedEntry, startedEntry, entryFor, renamed, appended, enter, decoded, decodeWithin, decodeOf}
 use Rattle.machine.proofs.RefusalLaws.{passed, own-next}
 
 pub refusal-is : (m : Machine) → first (when (not (eqb (m .halt .cause) 0)) 10 ∷ when (leb (m .setup .window) (m .count)) 11 ∷ []) ≡ decodeRefusal m

@@ -1,16 +1,15 @@
 -- Decode.
 use Prim.Native.Nat.{ℕ, suc}
-use mathlib.Core.Bool.{Bool, true, false, not}
+use mathlib.Core.Bool.{Bool, false}
 use mathlib.Core.List.{List, [], _∷_}
 use lib.Dec.{leb, eqb}
-use lib.ListN.{set}
-use Rattle.isa.specs.Reads.{choose, none}
+use Rattle.isa.specs.Reads.{choose}
 use Rattle.isa.specs.declared.Instruction.{Instruction}
 use Rattle.execution.specs.Execute.{stop, onward}
 use Rattle.reference.specs.Fetch.{FetchNumbers, fetchAt}
 use Rattle.execution.specs.Roles.{causeAtOnce, predictedNext}
 use Rattle.reference.specs.Step.{when, first, firstSource, secondSource, destination}
-use Rattle.tables.specs.Table.{lookUp, storeUnder, lookValid}
+use Rattle.tables.specs.Table.{lookUp, lookValid}
 use Rattle.tables.specs.FreeList.{takenHead, takenLink}
 use Rattle.tables.specs.Operand.{shownOperand}
 use Rattle.tables.specs.declared.Operand.{Operand}

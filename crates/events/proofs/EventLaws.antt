@@ -4,7 +4,7 @@ use mathlib.Core.Path.{_≡_, refl, sym, ap, _∙_}
 use mathlib.Core.Bool.{Bool, true, false, not, _&&_}
 use mathlib.Core.List.{List}
 use borrow.Author.Tests.{eq-eqb, ne-eqb, eqb-true, le-leb, lt-leb}
-use lib.Dec.{leb, eqb}
+use lib.Dec.{eqb}
 use Rattle.isa.specs.Reads.{choose}
 use Rattle.formats.specs.declared.Record.{Record}
 use Rattle.machine.specs.Call.{lentRefusal, inTurn, answered}

@@ -1,6 +1,6 @@
 -- The statement on the counts.
 use Prim.Native.Nat.{ℕ, suc, _+_, _≤_}
-use mathlib.Core.Path.{_≡_, refl, ap, _∙_}
+use mathlib.Core.Path.{_≡_, refl}
 use mathlib.Core.Bool.{Bool, true, false, _&&_}
 use mathlib.Core.List.{List, [], _∷_}
 use native.Mathlib.Omega.{arith}
@@ -9,7 +9,7 @@ use lib.ListN.{length}
 use Rattle.isa.specs.Reads.{choose}
 use Rattle.formats.specs.declared.Record.{Record}
 use Rattle.machine.specs.declared.Machine.{Machine}
-use Rattle.agreement.specs.Lists.{Call, own, World, Made, make, makeAll, isCommit}
+use Rattle.agreement.specs.Lists.{Call, own, Made, make, makeAll, isCommit}
 use Rattle.events.specs.declared.Counts.{Counts}
 use Rattle.events.specs.Counts.{callBy, accepting, refusing, Played, played, playedAll}
 use Rattle.events.specs.Statement.{callsOf, countedFrom, Statement}

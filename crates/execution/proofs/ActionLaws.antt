@@ -1,8 +1,8 @@
 -- The code's tables and numbers against the actions.
 use Prim.Native.Nat.{ℕ, zero, suc, _≤_, _<_}
 use mathlib.Core.Path.{_≡_, refl, sym, ap, subst, _∙_}
-use mathlib.Core.Bool.{Bool, true, false, not, _&&_, _||_}
-use mathlib.Core.List.{List, [], _∷_}
+use mathlib.Core.Bool.{Bool, not, _&&_, _||_}
+use mathlib.Core.List.{[], _∷_}
 use mathlib.Core.Logic.{_⊎_, inl, inr, ⊎-elim}
 use native.Mathlib.Omega.{arith}
 use borrow.Author.Tests.{leb-true, le-leb, eq-eqb}
@@ -11,7 +11,7 @@ use lib.ListN.{getD, List·getD-map, List·getD-eq-default}
 use Rattle.laws.proofs.Bools.{and-left, and-right, implied, true-of}
 use Rattle.laws.proofs.Lists.{getD-within}
 use Rattle.laws.proofs.Table.{at}
-use Rattle.execution.specs.Actions.{Alu, ADD, SUB, SLL, SLT, SLTU, XOR, SRL, SRA, OR, AND, Condition, EQ, NE, LT, GE, LTU, GEU, Computation, Upper, UpperAddress, Jump, JumpRegister, Branch, Immediate, Register, Action, Computes, LoadsSigned, LoadsUnsigned, Stores, Stops, actions, actionOf}
+use Rattle.execution.specs.Actions.{Alu, ADD, SUB, SLL, SLT, SLTU, XOR, SRL, SRA, OR, AND, Condition, EQ, NE, LT, GE, LTU, GEU, Upper, UpperAddress, Jump, JumpRegister, Branch, Immediate, Register, Action, Computes, LoadsSigned, LoadsUnsigned, Stores, Stops, actions, actionOf}
 use Rattle.execution.specs.Codes.{aluCode, aluAt, conditionCode, conditionAt, class, kind, actionAt, classes, kinds, Sized}
 
 alu-code : (f : Alu) → aluAt (aluCode f) ≡ f

@@ -1,18 +1,18 @@
 -- Laws of loads and stores, over the size.
 use Prim.Native.Nat.{ℕ, _+_, _%_, _≤_, _<_}
-use mathlib.Core.Path.{_≡_, refl, sym, ap, _∙_}
-use mathlib.Core.Bool.{Bool, true, false, _&&_}
+use mathlib.Core.Path.{_≡_, refl, ap}
+use mathlib.Core.Bool.{Bool, true, false}
 use mathlib.Core.List.{List}
 use native.Mathlib.Omega.{arith}
 use borrow.Author.Tests.{leb-true}
 use lib.Dec.{leb, eqb}
 use lib.ListN.{length}
-use Rattle.word.specs.Bytes.{number, byteOf, put}
+use Rattle.word.specs.Bytes.{put}
 use Rattle.word.proofs.BytesLaws.{number-same, put-length}
 use Rattle.laws.proofs.Bools.{and-right}
 use Rattle.isa.specs.Reads.{choose}
 use Rattle.isa.specs.declared.Instruction.{Instruction}
-use Rattle.execution.specs.Actions.{Computation, Action, Computes, LoadsSigned, LoadsUnsigned, Stores, Stops, actionOf}
+use Rattle.execution.specs.Actions.{Action, Computes, LoadsSigned, LoadsUnsigned, Stores, Stops, actionOf}
 use Rattle.execution.specs.Codes.{class}
 use Rattle.execution.specs.Memory.{accessible, effective, signExtended, secondBy, storedBy, endsWithinBy, storeEndsWithin}
 

@@ -3,7 +3,7 @@ use mathlib.Core.List.{List, [], _∷_, map}
 use Prim.Native.Nat.{ℕ, _≤_, _<_}
 use mathlib.Core.Path.{_≡_}
 use lib.ListN.{getD}
-use Rattle.execution.specs.Actions.{Alu, ADD, SUB, SLL, SLT, SLTU, XOR, SRL, SRA, OR, AND, Condition, EQ, NE, LT, GE, LTU, GEU, Computation, Upper, UpperAddress, Jump, JumpRegister, Branch, Immediate, Register, Action, Computes, LoadsSigned, LoadsUnsigned, Stores, Stops, actions}
+use Rattle.execution.specs.Actions.{Alu, ADD, SUB, SLL, SLT, SLTU, XOR, SRL, SRA, OR, AND, Condition, EQ, NE, LT, GE, LTU, GEU, Upper, UpperAddress, Jump, JumpRegister, Branch, Immediate, Register, Action, Computes, LoadsSigned, LoadsUnsigned, Stores, Stops, actions}
 
 abbrev pub aluCode : Alu → ℕ
 aluCode ADD = 0

@@ -4,7 +4,7 @@ use mathlib.Core.Bool.{Bool, true, false}
 use Rattle.word.specs.Arithmetic.{sum}
 use Rattle.word.specs.Signed.{wordOf}
 use Rattle.isa.specs.declared.Instruction.{Instruction}
-use Rattle.execution.specs.Actions.{Condition, Alu, Computation, Upper, UpperAddress, Jump, JumpRegister, Branch, Immediate, Register, Action, Computes, LoadsSigned, LoadsUnsigned, Stores, Stops, actionOf}
+use Rattle.execution.specs.Actions.{Computation, Upper, UpperAddress, Jump, JumpRegister, Branch, Immediate, Register, Action, Computes, LoadsSigned, LoadsUnsigned, Stores, Stops, actionOf}
 use Rattle.execution.specs.Execute.{onward}
 
 unfoldable pub loadsBy : Action → Bool

@@ -14,7 +14,6 @@ use Rattle.isa.specs.Listing.{Format, R, I, S, B, U, J, Shift, Whole, fo
 use Rattle.isa.specs.Codes.{fixedBits, named}
 use Rattle.isa.specs.Encodes.{Limits, limitsOf, within, accepted, constantPart, wordOf, written, refused, encodedOf}
 use Rattle.isa.specs.declared.Instruction.{Instruction}
-use Rattle.isa.specs.declared.Encoded.{Encoded}
 use Rattle.isa.proofs.FormatLaws.{fixed-at}
 
 pub record Within (l : Limits) (i : Instruction) : Type 0 where

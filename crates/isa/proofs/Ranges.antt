@@ -1,22 +1,21 @@
 -- The encoder's test is document 01's ranges; what was read lies in them.
-use Prim.Native.Nat.{ℕ, zero, suc, _+_, _-_, _*_, _/_, _%_, _^_, _≤_, _<_}
+use Prim.Native.Nat.{ℕ, suc, _+_, _-_, _*_, _/_, _%_, _^_, _≤_, _<_}
 use mathlib.Core.Path.{_≡_, refl, sym, ap, _∙_}
 use mathlib.Core.Bool.{true}
 use native.Mathlib.Nat.{mod-one}
 use native.Mathlib.Omega.{arith}
 use borrow.Author.Tests.{le-leb, leb-true}
 use lib.IntN.{ℤ, pos, negsuc, _+ℤ_}
-use lib.Signed.{leZ, _≤ℤ_, leZ-yes}
+use lib.Signed.{leZ, leZ-yes}
 use Rattle.word.specs.Field.{field}
 use Rattle.word.specs.Signed as Signed
-use Rattle.word.specs.Signed.{extend}
 use Rattle.word.proofs.FieldLaws.{below}
 use Rattle.word.proofs.ExtendLaws.{extend-low, extend-from, extend-to}
 use Rattle.laws.proofs.Bools.{holds, true-of}
 use Rattle.isa.specs.Listing.{Format, R, I, S, B, U, J, Shift, Whole, formatOf}
 use Rattle.isa.specs.Reads.{legal, constantOf, fieldsOf, readOf}
-use Rattle.isa.specs.Encodes.{Limits, limitsOf, minus}
-use Rattle.isa.specs.Statement.{Between, Even, Fields, Ranges, InRange}
+use Rattle.isa.specs.Encodes.{limitsOf}
+use Rattle.isa.specs.Statement.{Between, Even, Ranges, InRange}
 use Rattle.isa.specs.declared.Instruction.{Instruction}
 use Rattle.isa.proofs.Accepted.{Within, Accepted}
 use Rattle.isa.proofs.FieldsBack.{natural}

@@ -1,13 +1,13 @@
 -- What the reader's answer says of the word.
 use Prim.Native.Nat.{ℕ, zero, suc, _+_, _≤_, _<_}
-use mathlib.Core.Path.{_≡_, refl, sym, ap, _∙_}
+use mathlib.Core.Path.{_≡_, refl, sym, ap}
 use mathlib.Core.Bool.{Bool, true, false}
 use native.Mathlib.Omega.{arith}
 use borrow.Author.Tests.{eqb-true}
 use lib.Dec.{eqb}
 use Rattle.word.proofs.FieldLaws.{below}
 use Rattle.isa.specs.Listing.{Format, R, I, S, B, U, J, Shift, Whole, formatOf, fixedOf}
-use Rattle.isa.specs.Reads.{choose, none, Numbers, legal, illegal, numbersOf, fixedPart, operationFrom, operationOf, fieldsOf, readAs, readOf}
+use Rattle.isa.specs.Reads.{choose, Numbers, legal, illegal, numbersOf, fixedPart, operationFrom, operationOf, fieldsOf, readAs, readOf}
 use Rattle.isa.specs.declared.Instruction.{Instruction}
 use Rattle.isa.specs.declared.Reading.{Reading}
 use Rattle.isa.specs.declared.Reading.the-variants.{Legal, Illegal}

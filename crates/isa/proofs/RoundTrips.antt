@@ -1,5 +1,5 @@
 -- The statement on the reader and the encoder.
-use Prim.Native.Nat.{ℕ, _+_, _^_, _<_}
+use Prim.Native.Nat.{ℕ, _^_, _<_}
 use mathlib.Core.Path.{_≡_, refl, sym, ap, subst, _∙_}
 use mathlib.Core.Bool.{Bool, true, false}
 use mathlib.Core.Logic.{_⊎_, inl, inr}
@@ -7,7 +7,7 @@ use native.Mathlib.Omega.{arith}
 use Rattle.isa.specs.Listing.{formatOf, fixedOf}
 use Rattle.isa.specs.Reads.{choose, legal, operationOf, readOf}
 use Rattle.isa.specs.Encodes.{accepted, wordOf, written, refused, encodedOf}
-use Rattle.isa.specs.Statement.{InRange, Statement}
+use Rattle.isa.specs.Statement.{Statement}
 use Rattle.isa.specs.declared.Instruction.{Instruction}
 use Rattle.isa.specs.declared.Encoded.{Encoded}
 use Rattle.isa.proofs.Accepted.{Accepted, accepted-says, accepted-holds, answer-written, word-fits}

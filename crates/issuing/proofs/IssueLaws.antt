@@ -1,12 +1,10 @@
 -- Issue, put together from its parts.
-use Prim.Native.Nat.{ℕ, zero, suc, _+_, _<_}
-use mathlib.Core.Path.{_≡_, refl, sym, ap, _∙_}
-use mathlib.Core.Bool.{Bool, true, false, not, _&&_, _||_}
+use Prim.Native.Nat.{ℕ, _+_, _<_}
+use mathlib.Core.Path.{_≡_, refl, ap}
+use mathlib.Core.Bool.{true, false, not, _&&_, _||_}
 use mathlib.Core.List.{List, [], _∷_}
 use native.Mathlib.Numerals.{add-one}
-use native.Mathlib.Omega.{arith}
 use borrow.Author.Tests.{leb-false}
-use lib.Dec.{leb, eqb}
 use lib.ListN.{getD}
 use Rattle.execution.specs.Roles.{loads, stores}
 use Rattle.reference.specs.Step.{when, first}

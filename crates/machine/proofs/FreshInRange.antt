@@ -1,24 +1,24 @@
 -- A fresh machine passes refusal 5's sweep; the statement on set-up.
-use Prim.Native.Nat.{ℕ, suc, _+_, _-_, _≤_, _<_}
+use Prim.Native.Nat.{ℕ, suc, _+_, _-_, _≤_}
 use mathlib.Core.Path.{_≡_, refl, sym, subst}
 use mathlib.Core.Bool.{Bool, true, false, _&&_}
-use mathlib.Core.List.{List, [], _∷_, _++_}
+use mathlib.Core.List.{List, _++_}
 use native.Mathlib.Omega.{arith}
-use borrow.Author.Tests.{le-leb, leb-true, ltb-true}
-use lib.Dec.{T, leb, ltb, leb→le}
+use borrow.Author.Tests.{le-leb, ltb-true}
+use lib.Dec.{leb, ltb, leb→le}
 use lib.ListN.{getD, replicate}
-use Rattle.laws.proofs.Bools.{and-right, both}
+use Rattle.laws.proofs.Bools.{both}
 use Rattle.laws.proofs.Table.{anywhere}
 use Rattle.isa.specs.Reads.{choose}
 use Rattle.reference.specs.Step.{programFits, dataFits}
 use Rattle.machine.specs.Machine.{namesOf}
 use Rattle.machine.specs.SetUp.{ownNumbers, risingNext, risingLink, freshMachine, setUpRefusal}
 use Rattle.machine.specs.Range.{everyFrom, within, setupInRange, tablesInRange, machineInRange}
-use Rattle.machine.specs.Statement.{rising, Fresh, Statement}
+use Rattle.machine.specs.Statement.{rising, Statement}
 use Rattle.tables.specs.FreeList.{Pool}
 use Rattle.machine.proofs.FreshLaws.{rising-pool}
 use Rattle.machine.proofs.RangeLaws.{every-holds}
-use Rattle.machine.proofs.SetUpLaws.{none-applies, Sizes, accepted-sizes}
+use Rattle.machine.proofs.SetUpLaws.{none-applies, accepted-sizes}
 use Rattle.machine.proofs.TabulateLaws.{tabulate-at}
 
 -- the numbers of a table are at most 31

@@ -1,15 +1,14 @@
 -- The chains of a fresh machine spell their numbers in rising order.
 use Prim.Native.Nat.{ℕ, zero, suc, _+_, _-_, _≤_, _<_}
-use mathlib.Core.Path.{_≡_, refl, sym, ap, subst, _∙_}
-use mathlib.Core.Bool.{Bool, true, false, _&&_}
-use mathlib.Core.List.{List, [], _∷_}
-use mathlib.Core.Logic.{_⊎_, inl, inr, ⊎-elim}
+use mathlib.Core.Path.{_≡_, refl, sym, subst, _∙_}
+use mathlib.Core.Bool.{Bool, true, false}
+use mathlib.Core.List.{_∷_}
+use mathlib.Core.Logic.{_⊎_, inl, inr}
 use native.Mathlib.Numerals.{add-one}
 use native.Mathlib.Omega.{arith}
 use borrow.Author.Tests.{le-leb, lt-leb, lt-ltb, le-ltb, leb-true, leb-false}
-use lib.Dec.{leb, ltb}
-use lib.ListN.{length, getD}
-use Rattle.isa.specs.Reads.{choose}
+use lib.Dec.{leb}
+use lib.ListN.{length}
 use Rattle.tables.specs.Table.{lookUp}
 use Rattle.tables.specs.FreeList.{Spells, occurrences, Pool}
 use Rattle.tables.proofs.PoolLaws.{cases, occurs-first, occurs-later}

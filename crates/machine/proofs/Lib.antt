@@ -8,3 +8,4 @@ pub mod DropLaws
 pub mod ReportLaws
 pub mod RefusalLaws
 pub mod OperationLaws
+pub mod ChangeLaws

@@ -1,11 +1,11 @@
 -- The instructions of a machine in range have operation numbers that the tables know.
 use Prim.Native.Nat.{ℕ, zero, suc, _+_, _≤_, _<_}
-use mathlib.Core.Path.{_≡_, refl, sym, ap, _∙_}
-use mathlib.Core.Bool.{Bool, true, false, not, _&&_, _||_}
+use mathlib.Core.Path.{_≡_, refl}
+use mathlib.Core.Bool.{Bool, true, false, _&&_, _||_}
 use mathlib.Core.List.{List}
 use native.Mathlib.Omega.{arith}
 use native.Mathlib.Nat.{add-zero, add-suc, suc-add, zero-add}
-use borrow.Author.Tests.{leb-true, eqb-true}
+use borrow.Author.Tests.{eqb-true}
 use lib.Dec.{leb, eqb}
 use lib.ListN.{getD}
 use Rattle.laws.proofs.Bools.{and-left, and-right}
@@ -17,7 +17,7 @@ use Rattle.tables.specs.declared.Entry.{Entry}
 use Rattle.machine.specs.declared.Setup.{Setup}
 use Rattle.machine.specs.declared.Machine.{Machine}
 use Rattle.machine.specs.Range.{everyFrom, entryInRange, setupInRange, tablesInRange, entriesInRange, machineInRange}
-use Rattle.tables.specs.Ranges.{isZero, isNone}
+use Rattle.tables.specs.Ranges.{isNone}
 
 -- what a sweep says of an element
 pub every-says : {A : Type 0} (test : A → Bool) (default : A) (from count k : ℕ) (table : List A) → everyFrom test default from count table ≡ true → k < count

@@ -1,12 +1,12 @@
 -- Laws of the ranges that refusal 5 looks at.
-use Prim.Native.Nat.{ℕ, zero, suc, _+_, _-_, _^_, _≤_, _<_}
-use mathlib.Core.Path.{_≡_, refl, sym, ap, _∙_}
+use Prim.Native.Nat.{ℕ, zero, suc, _+_, _-_, _≤_, _<_}
+use mathlib.Core.Path.{_≡_, refl, _∙_}
 use mathlib.Core.Bool.{Bool, true, false, _&&_}
-use mathlib.Core.List.{List, [], _∷_}
+use mathlib.Core.List.{List}
 use native.Mathlib.Numerals.{add-one}
 use native.Mathlib.Omega.{arith}
-use borrow.Author.Tests.{ne-eqb, lt-leb, le-leb, leb-true}
-use lib.Dec.{leb, eqb}
+use borrow.Author.Tests.{lt-leb, le-leb, leb-true}
+use lib.Dec.{leb}
 use lib.ListN.{getD}
 use Rattle.laws.proofs.Bools.{and-left, and-right}
 use Rattle.reference.specs.Step.{programFits, dataFits}

@@ -3,15 +3,12 @@ use Prim.Native.Nat.{ℕ, _≤_}
 use mathlib.Core.Path.{_≡_, refl, sym, ap, _∙_}
 use mathlib.Core.Bool.{Bool, true, false, not, _&&_}
 use mathlib.Core.List.{List, [], _∷_}
-use native.Mathlib.Omega.{arith}
-use borrow.Author.Tests.{eq-eqb, ne-eqb, eqb-true, eqb-false, leb-true}
+use borrow.Author.Tests.{eq-eqb, ne-eqb, eqb-true, eqb-false}
 use lib.Dec.{leb, eqb}
-use lib.ListN.{length}
 use Rattle.isa.specs.Reads.{choose}
-use Rattle.laws.proofs.Bools.{and-left, and-right, impossible}
+use Rattle.laws.proofs.Bools.{and-left, impossible}
 use Rattle.reference.specs.Step.{when, first}
 use Rattle.machine.specs.declared.Machine.{Machine}
-use Rattle.machine.specs.declared.Answer.{Answer}
 use Rattle.machine.specs.Range.{setupInRange, tablesInRange, entriesInRange, machineInRange}
 use Rattle.machine.specs.Call.{lengthsDiffer, lentRefusal, answered, inTurn}
 use Rattle.machine.proofs.RangeLaws.{setup-sizes}

@@ -1,5 +1,5 @@
 -- The report, by the sweep.
-use Prim.Native.Nat.{ℕ, _≤_}
+use Prim.Native.Nat.{_≤_}
 use mathlib.Core.Path.{_≡_}
 use mathlib.Core.Bool.{true, false, _&&_}
 use native.Mathlib.Omega.{arith}
@@ -8,7 +8,6 @@ use lib.Dec.{leb}
 use lib.ListN.{replicate}
 use Rattle.laws.proofs.Bools.{and-left, and-right}
 use Rattle.machine.specs.declared.Machine.{Machine}
-use Rattle.machine.specs.declared.Report.{Report}
 use Rattle.machine.specs.Drop.{dropTo}
 use Rattle.machine.specs.Range.{setupInRange, tablesInRange, entriesInRange, machineInRange}
 use Rattle.machine.specs.Report.{valuesIn, reportOf}

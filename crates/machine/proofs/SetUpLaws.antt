@@ -10,7 +10,6 @@ use Rattle.laws.proofs.Bools.{and-left, and-right}
 use Rattle.reference.specs.Step.{when, first, programFits, dataFits, lengthsRefusal}
 use Rattle.machine.specs.Machine.{zeroMachine}
 use Rattle.machine.specs.SetUp.{freshMachine, setUpRefusal, setUpOf}
-use Rattle.machine.specs.declared.Answer.{Answer}
 
 module _ (window registers program bytes : ℕ) where
   pub window-refused : leb 1 window && leb window 64 ≡ false → 1 ≡ setUpRefusal window registers program bytes

@@ -4,6 +4,7 @@ use mathlib.Core.Bool.{Bool, not}
 use mathlib.Core.List.{List, [], _∷_}
 use lib.Dec.{eqb}
 use lib.ListN.{getD, set}
+use Rattle.isa.specs.Reads.{choose}
 use Rattle.tables.specs.Table.{lookUp, storeUnder}
 use Rattle.tables.specs.FreeList.{freedHead, freedLink}
 use Rattle.tables.specs.Entry.{emptyEntry}
@@ -44,3 +45,14 @@ mapTo logical name register valid m =
 -- a name returns to the general map, "with register and valid bit from the physical map"
 abbrev pub restore : ℕ → ℕ → Machine → Machine
 restore logical name m = mapTo logical name (lookUp (m .physical) name) (not (eqb (lookUp (m .physical) name) 0)) m
+
+-- whether the general map still shows a name under a logical register
+abbrev pub shows : Machine → ℕ → ℕ → Bool
+shows m logical name = eqb (lookUp (m .mapname) logical) name
+
+-- both maps learn a name's register and valid bit, "the general map only if it still shows the name"
+abbrev pub mapsLearn : ℕ → ℕ → ℕ → Bool → Machine → Machine
+mapsLearn logical name register valid m =
+    withMap (m .mapname) (choose (shows m logical name) (storeUnder (m .mapregister) logical register) (m .mapregister))
+    (choose (shows m logical name) (storeUnder (m .mapvalid) logical valid) (m .mapvalid))
+    (withPhysical (storeUnder (m .physical) name register) m)

@@ -1,7 +1,7 @@
 -- The machine.
 use Prim.Native.Nat.{ℕ, zero, suc, _+_}
-use mathlib.Core.Bool.{Bool, true, false}
-use mathlib.Core.List.{List, [], _∷_, _++_}
+use mathlib.Core.Bool.{false}
+use mathlib.Core.List.{List, [], _∷_}
 use lib.ListN.{replicate}
 use Rattle.execution.specs.Execute.{stop}
 use Rattle.tables.specs.Entry.{emptyEntry}

@@ -1,7 +1,7 @@
 -- Refusal 5: "a number in it out of range".
 use Prim.Native.Nat.{ℕ, zero, suc}
 use mathlib.Core.Bool.{Bool, true, _&&_}
-use mathlib.Core.List.{List, [], _∷_}
+use mathlib.Core.List.{List}
 use lib.Dec.{leb}
 use lib.ListN.{getD}
 use Rattle.reference.specs.Step.{programFits, dataFits}

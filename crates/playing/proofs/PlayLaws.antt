@@ -1,10 +1,10 @@
 -- The walk along the schedule's chain, one event after the other.
-use Prim.Native.Nat.{ℕ, zero, suc, _+_, _*_, _-_, _/_, _≤_, _<_}
+use Prim.Native.Nat.{ℕ, zero, suc, _+_, _*_, _-_, _≤_, _<_}
 use mathlib.Core.Path.{_≡_, refl, sym, ap, subst, _∙_}
 use mathlib.Core.Bool.{Bool, true, false, _&&_}
 use mathlib.Core.List.{List, [], _∷_}
 use native.Mathlib.Omega.{arith}
-use borrow.Author.Tests.{eq-eqb, ne-eqb, leb-false}
+use borrow.Author.Tests.{ne-eqb, leb-false}
 use lib.Dec.{leb, eqb}
 use lib.ListN.{length}
 use Rattle.isa.specs.Reads.{choose}
@@ -25,7 +25,7 @@ use Rattle.agreement.proofs.Reaching.{started-reached, reached-range, reached-l
 use Rattle.events.specs.declared.Counts.{Counts}
 use Rattle.events.specs.Counts.{callBy, commits, steals, drops, accepting, refusing, Played, played, playedAll, noCounts}
 use Rattle.events.specs.Numbers.{Small}
-use Rattle.events.specs.Play.{Ready, playedFrom, playedOf}
+use Rattle.events.specs.Play.{Ready, playedOf}
 use Rattle.events.proofs.Laws.{one-most}
 
 -- what a chain that is not refused says of the index that leads to a record, and of the rest

@@ -1,18 +1,18 @@
 -- The short ways: each leaves what the event leaves.
-use Prim.Native.Nat.{ℕ, suc, _+_, _-_, _≤_, _<_}
+use Prim.Native.Nat.{ℕ, _+_, _-_, _≤_, _<_}
 use mathlib.Core.Path.{_≡_, refl, sym, ap, _∙_}
 use mathlib.Core.Bool.{Bool, true, false, not, _&&_}
 use mathlib.Core.List.{List}
 use native.Mathlib.Omega.{arith}
 use native.Mathlib.Numerals.{add-one}
 use borrow.Author.Tests.{eq-eqb, ne-eqb, lt-leb}
-use lib.Dec.{leb, eqb}
-use lib.ListN.{length, getD, set, length-set}
+use lib.Dec.{eqb}
+use lib.ListN.{length, set, length-set}
 use lib.Seq.{getD-set-same}
 use Rattle.isa.specs.Reads.{choose}
 use Rattle.reference.specs.Fetch.{fetchAt}
 use Rattle.execution.specs.Memory.{stored}
-use Rattle.reference.specs.Step.{when, first}
+use Rattle.reference.specs.Step.{first}
 use Rattle.execution.specs.declared.Outcome.{Outcome}
 use Rattle.execution.specs.declared.Stop.{Stop}
 use Rattle.tables.specs.Table.{lookUp, storeUnder}
@@ -20,7 +20,7 @@ use Rattle.tables.specs.FreeList.{takenHead, takenLink, freedHead, freedLink}
 use Rattle.tables.specs.Entry.{emptyEntry, isCompleted, completedEntry, wakeEntry}
 use Rattle.tables.specs.declared.Entry.{Entry}
 use Rattle.formats.specs.declared.Record.{Record}
-use Rattle.machine.specs.Call.{halted, noEntry, lentRefusal}
+use Rattle.machine.specs.Call.{lentRefusal}
 use Rattle.machine.specs.Changes.{entryAt, place, changeFirst, changeAll}
 use Rattle.machine.specs.Setters.{withCount, withEntries, withMap, withPhysical, withValues, withFreeRegisters, withFreeNames, withFetch, withNext}
 use Rattle.machine.specs.declared.Machine.{Machine}
@@ -31,14 +31,15 @@ use Rattle.decoding.proofs.DecodeLaws.{renamed-is, entered}
 use Rattle.issuing.specs.Issue.{issueRefusal, issued, issueWithin}
 use Rattle.issuing.proofs.IssueLaws.{no-load}
 use Rattle.completing.specs.Complete.{outcomeAt, needsRegister, noneFree, completeRefusal, learned, registered, redirected, finished, completed, completeWithin}
-use Rattle.completing.proofs.CompleteLaws.{change-none, supplied, without-register, free-register, registered-count, rightly-predicted, finish-goes, learned-is}
+use Rattle.completing.proofs.CompleteLaws.{supplied, without-register, free-register, registered-count, rightly-predicted, finish-goes, learned-is}
+use Rattle.machine.proofs.ChangeLaws.{change-none}
 use Rattle.committing.specs.Commit.{commitRefusal, moveDown, retired, commitWithin}
 use Rattle.committing.proofs.CommitLaws.{shifted, shifted-none, shift-done, not-refused, retired-is, commit-retires}
-use Rattle.agreement.specs.Lists.{own, madeBy, make, commit}
+use Rattle.agreement.specs.Lists.{commit}
 use Rattle.agreement.proofs.Learns.{changed-at}
 use Rattle.events.specs.declared.Counts.{Counts}
 use Rattle.events.specs.Counts.{callBy, Played, played}
-use Rattle.events.specs.Numbers.{adding, stealsBy, dropsBy}
+use Rattle.events.specs.Numbers.{adding}
 use Rattle.playing.specs.Ways.{Decodes, Issues, Completes, Smooth, Retires, readBy}
 use Rattle.playing.proofs.PlayLaws.{Going, is-lent, roomy}
 use Rattle.events.proofs.EventLaws.{by-decode, by-issue, theft, decode-made, issue-made, complete-made, commit-made, event-accepted}

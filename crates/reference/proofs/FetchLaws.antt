@@ -3,8 +3,7 @@ use Prim.Native.Nat.{ℕ, zero, suc}
 use mathlib.Core.Path.{_≡_, refl, sym, ap, subst, _∙_}
 use mathlib.Core.Bool.{Bool, true, false, _||_}
 use mathlib.Core.List.{List}
-use native.Mathlib.Omega.{arith}
-use borrow.Author.Tests.{eqb-true, eq-eqb}
+use borrow.Author.Tests.{eqb-true}
 use lib.Dec.{eqb}
 use lib.ListN.{length}
 use Rattle.word.specs.Bytes.{number, byteOf}
@@ -16,7 +15,6 @@ use Rattle.isa.proofs.Ranges.{read-accepted}
 use Rattle.isa.proofs.ReadLaws.{Small, legal-small}
 use Rattle.execution.specs.Memory.{accessible}
 use Rattle.reference.specs.Fetch.{FetchNumbers, noInstruction, fetchNumbers, ofReading, fetchAt}
-use Rattle.execution.specs.declared.Stop.{Stop}
 use Rattle.reference.specs.declared.Fetching.{Fetching}
 use Rattle.reference.specs.declared.Fetching.the-variants.{Found, Stopped}
 

@@ -1,13 +1,9 @@
 -- The statement on the in-order step and run.
-use Prim.Native.Nat.{ℕ, _+_, _≤_, _<_}
-use mathlib.Core.Path.{_≡_, refl, sym, ap, _∙_}
-use mathlib.Core.Bool.{Bool, true, false}
+use Prim.Native.Nat.{ℕ}
+use mathlib.Core.Path.{_≡_, refl}
 use mathlib.Core.List.{List}
 use lib.Dec.{eqb}
-use lib.ListN.{length, getD, set}
-use lib.Seq.{getD-set-other}
-use borrow.Author.Tests.{eq-eqb}
-use Rattle.isa.specs.Reads.{choose}
+use lib.ListN.{length, getD}
 use Rattle.isa.specs.declared.Instruction.{Instruction}
 use Rattle.execution.specs.Actions.{actionOf}
 use Rattle.execution.specs.Memory.{effective, stored}

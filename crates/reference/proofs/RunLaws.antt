@@ -9,8 +9,8 @@ use borrow.Author.Tests.{eq-eqb, ne-eqb, eqb-true, eqb-false}
 use lib.Dec.{eqb}
 use Rattle.isa.specs.Reads.{choose}
 use Rattle.execution.specs.Execute.{stop}
-use Rattle.reference.specs.Step.{State, Step, state, reached, stepOf, lengthRefusal}
-use Rattle.reference.specs.Run.{Run, ended, after, runOf, RunAnswer, runAnswer, ranOf}
+use Rattle.reference.specs.Step.{State, Step, state, stepOf, lengthRefusal}
+use Rattle.reference.specs.Run.{Run, ended, after, runOf, runAnswer, ranOf}
 use Rattle.reference.specs.Statement.{continued}
 use Rattle.execution.specs.declared.Stop.{Stop}
 

@@ -13,7 +13,7 @@ use Rattle.isa.specs.declared.Instruction.{Instruction}
 use Rattle.execution.specs.Memory.{secondValue, stored}
 use Rattle.execution.specs.Execute.{stop, executed}
 use Rattle.reference.specs.Fetch.{FetchNumbers, fetchNumbers, fetchAt}
-use Rattle.reference.specs.Step.{State, Step, state, reached, firstSource, secondSource, destination, readRegister, writeRegister, stoppedAt, settled, firstOf, secondOf, stepWith, stepFetched, stepOf, lengthRefusal, StepAnswer, stepAnswer, steppedOf}
+use Rattle.reference.specs.Step.{State, Step, state, reached, firstSource, secondSource, destination, readRegister, writeRegister, stoppedAt, settled, firstOf, secondOf, stepWith, stepFetched, stepOf, lengthRefusal, stepAnswer, steppedOf}
 use Rattle.execution.specs.declared.Stop.{Stop}
 use Rattle.execution.specs.declared.Outcome.{Outcome}
 use Rattle.reference.specs.declared.Fetching.the-variants.{Found, Stopped}

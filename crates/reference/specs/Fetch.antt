@@ -8,7 +8,6 @@ use Rattle.word.specs.Bytes.{number, byteOf}
 use Rattle.isa.specs.Reads.{choose, none, Numbers, readOf}
 use Rattle.isa.specs.declared.Instruction.{Instruction}
 use Rattle.execution.specs.Memory.{accessible}
-use Rattle.execution.specs.declared.Stop.{Stop}
 use Rattle.reference.specs.declared.Fetching.{Fetching}
 use Rattle.reference.specs.declared.Fetching.the-variants.{Found, Stopped}
 

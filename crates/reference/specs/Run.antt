@@ -4,7 +4,7 @@ use mathlib.Core.List.{List}
 use lib.Dec.{eqb}
 use Rattle.isa.specs.Reads.{choose}
 use Rattle.execution.specs.Execute.{stop}
-use Rattle.reference.specs.Step.{State, Step, stepOf, lengthRefusal}
+use Rattle.reference.specs.Step.{State, stepOf, lengthRefusal}
 use Rattle.execution.specs.declared.Stop.{Stop}
 use Rattle.reference.specs.declared.Ran.{Ran}
 

@@ -1,6 +1,6 @@
 -- Taking from a pool leaves the rest of its list; freeing puts one number before it.
 use Prim.Native.Nat.{ℕ, _+_, _≤_, _<_}
-use mathlib.Core.Path.{_≡_, refl, sym, ap, subst, _∙_}
+use mathlib.Core.Path.{_≡_, refl, sym, subst, _∙_}
 use mathlib.Core.Bool.{Bool, true, false}
 use mathlib.Core.List.{List, [], _∷_}
 use native.Mathlib.Nat.{zero-add}
@@ -8,7 +8,6 @@ use native.Mathlib.Omega.{arith}
 use borrow.Author.Tests.{eq-eqb, ne-eqb, eqb-true, eqb-false}
 use lib.Dec.{eqb}
 use lib.ListN.{length}
-use Rattle.isa.specs.Reads.{choose}
 use Rattle.tables.specs.Table.{lookUp, storeUnder}
 use Rattle.tables.specs.FreeList.{takenHead, takenLink, freedHead, freedLink, Spells, occurrences, Pool}
 use Rattle.tables.proofs.TableLaws.{look-other, look-same, look-cleared}

@@ -3,7 +3,6 @@ use Prim.Native.Nat.{ℕ}
 use mathlib.Core.Bool.{Bool, true, false}
 use mathlib.Core.List.{List}
 use Rattle.isa.specs.Reads.{none}
-use Rattle.isa.specs.declared.Instruction.{Instruction}
 use Rattle.execution.specs.Execute.{stop}
 use Rattle.execution.specs.declared.Stop.{Stop}
 use Rattle.tables.specs.Table.{lookUp}

@@ -1,13 +1,11 @@
 -- Drain, call by call.
-use Prim.Native.Nat.{ℕ, zero, suc, _+_, _-_, _*_, _≤_, _<_}
-use mathlib.Core.Path.{_≡_, refl, sym, ap, _∙_}
+use Prim.Native.Nat.{ℕ, suc, _+_, _-_, _*_, _≤_, _<_}
+use mathlib.Core.Path.{_≡_, _∙_}
 use mathlib.Core.Bool.{true, false}
 use mathlib.Core.List.{List}
 use native.Mathlib.Omega.{arith}
 use native.Mathlib.Numerals.{add-one}
 use borrow.Author.Tests.{eq-eqb, ne-eqb}
-use lib.Dec.{eqb}
-use Rattle.tables.specs.declared.State.{State}
 use Rattle.tables.specs.declared.State.the-variants.{Waits, Issued, Completed}
 use Rattle.machine.specs.declared.Machine.{Machine}
 use Rattle.machine.specs.declared.Answer.{Answer}
@@ -16,7 +14,7 @@ use Rattle.machine.specs.Changes.{entryAt}
 use Rattle.issuing.specs.Issue.{issueOf}
 use Rattle.completing.specs.Complete.{completeOf}
 use Rattle.committing.specs.Commit.{Commit, commitOf}
-use Rattle.window.specs.Drain.{neededOf, Drain, drainEnds, idle, drainFrom, drainOf}
+use Rattle.window.specs.Drain.{neededOf, drainEnds, idle, drainFrom, drainOf}
 
 -- the call that position 0 needs, by its state
 module _ (program memory : List ℕ) (m : Machine) where

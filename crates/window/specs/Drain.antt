@@ -1,5 +1,5 @@
 -- "Drain makes the calls that commit position 0 until no entry is left or the machine halts, and counts accepted calls."
-use Prim.Native.Nat.{ℕ, zero, suc, _+_, _*_}
+use Prim.Native.Nat.{ℕ, zero, suc, _*_}
 use mathlib.Core.Bool.{Bool, _||_}
 use mathlib.Core.List.{List}
 use lib.Dec.{eqb}
@@ -12,7 +12,6 @@ use Rattle.issuing.specs.Issue.{issueOf}
 use Rattle.completing.specs.Complete.{completeOf}
 use Rattle.committing.specs.Commit.{Commit, commitOf}
 use Rattle.machine.specs.declared.Machine.{Machine}
-use Rattle.machine.specs.declared.Answer.{Answer}
 
 -- the call that position 0 needs next, by its state
 abbrev pub neededBy : State → List ℕ → List ℕ → Machine → Commit

@@ -1,6 +1,6 @@
 // Drain: the calls that commit position 0, until none is left.
 ghost use mathlib.Core.Path.{_≡_};
-ghost use Prim.Native.Nat.{_≤_, _*_};
+ghost use Prim.Native.Nat.{_*_};
 ghost use Rattle.window.specs.Drain as Drain;
 ghost use Rattle.window.specs.Handed as Handed;
 use crate::Answer;

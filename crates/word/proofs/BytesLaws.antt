@@ -7,7 +7,7 @@ use native.Mathlib.Nat.{add-comm, pow-suc, mod-one}
 use native.Mathlib.Omega.{arith}
 use lib.Arith.{mod-mul}
 use lib.Pow.{pow-add}
-use lib.ListN.{length, getD, set, length-set}
+use lib.ListN.{length, set, length-set}
 use lib.Seq.{getD-set-same, getD-set-other}
 use Rattle.word.specs.Bytes.{number, byteOf, put}
 

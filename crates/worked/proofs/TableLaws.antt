@@ -21,7 +21,8 @@ use Rattle.machine.specs.Call.{lentRefusal}
 use Rattle.machine.specs.Changes.{changeFirst}
 use Rattle.decoding.specs.Decode.{decodeRefusal, enter, decodeOf}
 use Rattle.issuing.specs.Issue.{storeBelow, issueRefusal, issued, issueOf}
-use Rattle.completing.specs.Complete.{victimAmong, completeRefusal, robbed, learned, redirected, completeOf}
+use Rattle.completing.specs.Complete.{completeRefusal, learned, redirected, completeOf}
+use Rattle.stealing.specs.Steal.{victimAmong, robbed}
 use Rattle.committing.specs.Commit.{commitRefusal, moveDown, retired, commitOf}
 use Rattle.agreement.specs.Lists.{make, makeAll}
 use Rattle.worked.specs.Same.{sameList}

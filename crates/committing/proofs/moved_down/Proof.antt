@@ -1,11 +1,10 @@
 use borrow.Author.Needs.{needs}
 use Prim.Native.Nat.{ℕ, _-_, _≤_}
-use mathlib.Core.Path.{_≡_, refl, sym, ap, _∙_}
+use mathlib.Core.Path.{_≡_, refl, ap, _∙_}
 use mathlib.Core.List.{List}
 use native.Mathlib.Omega.{arith}
 use lib.ListN.{length}
 use Rattle.tables.specs.declared.Entry.{Entry}
-use Rattle.machine.specs.declared.Machine.{Machine}
 use Rattle.machine.specs.Setters.{withEntries}
 use Rattle.committing.proofs.CommitLaws.{length-mapped, shifted, shifted-none, shift-turn, shift-done}
 use Rattle.committing.proofs.moved_down.Statement.{statement}

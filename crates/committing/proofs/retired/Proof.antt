@@ -1,4 +1,4 @@
-use mathlib.Core.Path.{_≡_, ap, _∙_}
+use mathlib.Core.Path.{ap}
 use native.Mathlib.Omega.{arith}
 use Rattle.machine.specs.declared.Machine.{Machine}
 use Rattle.committing.proofs.CommitLaws.{retired-is}

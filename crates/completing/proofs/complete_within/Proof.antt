@@ -1,6 +1,5 @@
-use mathlib.Core.Path.{_≡_, sym, ap, _∙_}
+use mathlib.Core.Path.{sym, ap, _∙_}
 use Rattle.machine.specs.declared.Machine.{Machine}
-use Rattle.machine.specs.declared.Answer.{Answer}
 use Rattle.completing.specs.Complete.{completeRefusal, completed, completeWithin}
 use Rattle.machine.proofs.RefusalLaws.{answered-refused, answered-next}
 use Rattle.completing.proofs.CompleteLaws.{has-entry}

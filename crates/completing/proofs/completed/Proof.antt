@@ -1,4 +1,4 @@
-use mathlib.Core.Path.{_≡_, sym, ap, _∙_}
+use mathlib.Core.Path.{ap, _∙_}
 use native.Mathlib.Omega.{arith}
 use Rattle.execution.specs.declared.Outcome.{Outcome}
 use Rattle.tables.specs.declared.Entry.{Entry}

@@ -1,4 +1,4 @@
-use mathlib.Core.Path.{_≡_, sym, ap, _∙_}
+use mathlib.Core.Path.{_≡_, _∙_}
 use lib.ListN.{length}
 use Rattle.completing.proofs.CompleteLaws.{learned-is}
 use borrow.Author.Needs.{needs}

@@ -1,12 +1,14 @@
-use mathlib.Core.Path.{_≡_, sym, ap, _∙_}
+use mathlib.Core.Path.{_≡_, ap, _∙_}
 use native.Mathlib.Omega.{arith}
 use Prim.Native.Nat.{ℕ, _<_}
 use Rattle.tables.specs.Entry.{held}
 use Rattle.tables.specs.declared.Entry.{Entry}
 use Rattle.machine.specs.declared.Machine.{Machine}
 use Rattle.machine.specs.Changes.{entryAt, place}
-use Rattle.completing.specs.Complete.{victimOf, robbed, learned}
-use Rattle.completing.proofs.CompleteLaws.{victim-within, robbed-count, without-register, free-register, stolen-register}
+use Rattle.completing.specs.Complete.{learned}
+use Rattle.stealing.specs.Steal.{victimOf, robbed}
+use Rattle.completing.proofs.CompleteLaws.{without-register, free-register, stolen-register}
+use Rattle.stealing.proofs.StealLaws.{victim-within, robbed-count}
 use borrow.Author.Needs.{needs}
 use Rattle.completing.proofs.registered.Statement.{statement}
 use Rattle.completing.proofs.registered.Tie as tie

@@ -1,14 +1,13 @@
 use borrow.Author.Needs.{needs}
 use Prim.Native.Nat.{ℕ, _-_, _≤_}
-use mathlib.Core.Path.{_≡_, refl, sym, ap, _∙_}
+use mathlib.Core.Path.{_≡_, ap, _∙_}
 use mathlib.Core.List.{List}
 use native.Mathlib.Omega.{arith}
 use Rattle.tables.specs.Entry.{wakeEntry}
 use Rattle.tables.specs.declared.Entry.{Entry}
-use Rattle.machine.specs.declared.Machine.{Machine}
 use Rattle.machine.specs.Setters.{withEntries}
 use Rattle.machine.specs.Changes.{changeFirst}
-use Rattle.completing.proofs.CompleteLaws.{change-none, change-turn}
+use Rattle.machine.proofs.ChangeLaws.{change-none, change-turn}
 use Rattle.completing.proofs.wake_all.Statement.{statement}
 use Rattle.completing.proofs.wake_all.Tie as tie
 

@@ -1,11 +1,8 @@
-use mathlib.Core.Path.{_≡_, sym, ap, _∙_}
+use mathlib.Core.Path.{sym, ap, _∙_}
 use native.Mathlib.Omega.{arith}
 use denote.Ref.{now}
-use Prim.Native.Nat.{ℕ}
-use Rattle.reference.specs.Fetch.{fetchAt}
 use Rattle.tables.specs.declared.Entry.{Entry}
 use Rattle.machine.specs.declared.Machine.{Machine}
-use Rattle.machine.specs.declared.Answer.{Answer}
 use Rattle.decoding.specs.Decode.{decodeRefusal, enter, decoded, decodeWithin}
 use Rattle.machine.proofs.RefusalLaws.{answered-refused, answered-next}
 use Rattle.decoding.proofs.DecodeLaws.{refusal-is, has-place}

@@ -1,4 +1,4 @@
-use mathlib.Core.Path.{_≡_, refl, ap, _∙_}
+use mathlib.Core.Path.{refl, ap, _∙_}
 use mathlib.Core.Bool.{not}
 use mathlib.Core.List.{[], _∷_}
 use borrow.Author.Tests.{eq-eqb, ne-eqb, le-leb, lt-leb}

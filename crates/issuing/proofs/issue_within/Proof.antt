@@ -1,7 +1,6 @@
-use mathlib.Core.Path.{_≡_, sym, ap, _∙_}
+use mathlib.Core.Path.{sym, ap, _∙_}
 use denote.Ref.{now}
 use Rattle.machine.specs.declared.Machine.{Machine}
-use Rattle.machine.specs.declared.Answer.{Answer}
 use Rattle.issuing.specs.Issue.{issueRefusal, issued, issueWithin}
 use Rattle.machine.proofs.RefusalLaws.{answered-refused, answered-next}
 use Rattle.issuing.proofs.IssueLaws.{has-entry}

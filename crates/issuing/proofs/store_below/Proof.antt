@@ -2,7 +2,7 @@ use lib.ListN.{getD}
 use Rattle.tables.specs.Entry.{emptyEntry}
 use Prim.Native.Nat.{ℕ, _-_, _≤_}
 use mathlib.Core.Bool.{Bool, _||_}
-use mathlib.Core.Path.{_≡_, refl, sym, ap, _∙_}
+use mathlib.Core.Path.{_≡_, ap, _∙_}
 use native.Mathlib.Omega.{arith}
 use Rattle.execution.specs.Roles.{stores}
 use Rattle.issuing.specs.Issue.{storeBelow}

@@ -1,4 +1,4 @@
-use Prim.Native.Nat.{ℕ, _-_, _≤_, _<_}
+use Prim.Native.Nat.{_-_, _≤_, _<_}
 use mathlib.Core.Path.{_≡_, refl, ap, _∙_}
 use native.Mathlib.Omega.{arith}
 use denote.Ref.{now}
@@ -9,7 +9,7 @@ use Rattle.machine.specs.Changes.{entryAt, changeFirst}
 use Rattle.machine.specs.Setters.{withEntries}
 use Rattle.machine.specs.declared.Machine.{Machine}
 use Rattle.machine.proofs.OperationLaws.{in-range-operation}
-use Rattle.completing.proofs.CompleteLaws.{change-turn}
+use Rattle.machine.proofs.ChangeLaws.{change-turn}
 use Rattle.committing.proofs.CommitLaws.{shifted, shift-turn}
 use Rattle.formats.proofs.HeadLaws.{at-least, at-most}
 use Rattle.playing.proofs.PlayLaws.{Going, begins, ends, chain-ends, is-lent, in-range, kept, few, roomy, small-enough, inside, goes-on}

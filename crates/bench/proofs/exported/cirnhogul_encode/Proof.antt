@@ -3,7 +3,7 @@ use Rattle.isa.specs.Reads.{instruction}
 use Rattle.isa.specs.Encodes.{encodedOf}
 use mir.Syntax.{w32}
 use mir.ValLaws.{toZ-ofZ}
-use mathlib.Core.Path.{_≡_, ap, _∙_}
+use mathlib.Core.Path.{ap, _∙_}
 use Rattle.bench.specs.Exported.{packed}
 use borrow.Author.Needs.{needs}
 use Rattle.bench.proofs.exported.cirnhogul_encode.Statement.{statement}

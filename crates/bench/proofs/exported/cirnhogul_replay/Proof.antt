@@ -1,4 +1,4 @@
-use mathlib.Core.Path.{_≡_, ap}
+use mathlib.Core.Path.{ap}
 use Rattle.bench.specs.Exported.{numbered}
 use borrow.Author.Needs.{needs}
 use Rattle.bench.proofs.exported.cirnhogul_replay.Statement.{statement}

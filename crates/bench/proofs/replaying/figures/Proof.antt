@@ -1,4 +1,3 @@
-use mathlib.Core.Path.{_≡_, sym, _∙_}
 use denote.Ref.{now}
 use Rattle.events.specs.Play.{playedOf}
 use Rattle.bench.proofs.RefusalLaws.{unrefused, head-long}

@@ -1,6 +1,5 @@
-use mathlib.Core.Path.{_≡_, sym, _∙_}
+use mathlib.Core.Path.{sym, _∙_}
 use denote.Ref.{now}
-use lib.ListN.{length}
 use Rattle.bench.proofs.RefusalLaws.{head-fits, head-long, lengths-stop, size-stop, head-stop, set-stop, chain-last}
 use borrow.Author.Needs.{needs}
 use Rattle.bench.proofs.replaying.refusal.Statement.{statement}

@@ -1,5 +1,3 @@
-use mathlib.Core.Path.{_≡_, sym, _∙_}
-use native.Mathlib.Omega.{arith}
 use Rattle.bench.proofs.WordLaws.{word-leading, word-register}
 use borrow.Author.Needs.{needs}
 use Rattle.bench.proofs.replaying.word_at.Statement.{statement}

@@ -1,6 +1,5 @@
 -- Safe and ends: the measure is the number of turns that are left.
 use Prim.Native.Nat.{_-_}
-use mathlib.Core.Path.{_≡_}
 use lib.ListN.{length}
 use native.Mathlib.Omega.{arith}
 use borrow.Author.Needs.{needs}

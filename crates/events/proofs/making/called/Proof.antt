@@ -1,5 +1,4 @@
 use denote.Ref.{now}
-use native.Mathlib.Omega.{arith}
 use Rattle.machine.proofs.RefusalLaws.{in-range-lent, in-range-window}
 use Rattle.events.specs.Counts.{callBy}
 use Rattle.events.proofs.EventLaws.{by-decode, by-issue, by-complete, by-commit, decode-made, issue-made, complete-made, commit-made}

@@ -1,5 +1,4 @@
 use denote.Ref.{now}
-use native.Mathlib.Omega.{arith}
 use Rattle.machine.proofs.RefusalLaws.{in-range-lent}
 use Rattle.events.proofs.EventLaws.{event-refused, event-accepted}
 use borrow.Author.Needs.{needs}

@@ -1,4 +1,4 @@
-use mathlib.Core.Path.{_≡_, sym, _∙_}
+use mathlib.Core.Path.{sym, _∙_}
 use mathlib.Core.Bool.{true, false}
 use native.Mathlib.Omega.{arith}
 use Rattle.events.proofs.EventLaws.{no-theft, theft, theft-none, theft-some}

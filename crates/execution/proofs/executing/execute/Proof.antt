@@ -1,7 +1,6 @@
-use Prim.Native.Nat.{ℕ, _<_}
-use mathlib.Core.Path.{_≡_, ap, _∙_}
+use Prim.Native.Nat.{ℕ}
+use mathlib.Core.Path.{ap, _∙_}
 use mir.Val.{ofZ}
-use lib.IntN.{ℤ}
 use Rattle.execution.specs.Actions.{Action, actionOf}
 use Rattle.execution.proofs.ActionLaws.{action-of, sized-of}
 use mir.Syntax.{w32}

@@ -1,6 +1,5 @@
-use mathlib.Core.Path.{_≡_, sym, _∙_}
+use mathlib.Core.Path.{sym, _∙_}
 use borrow.Author.Tests.{not-true, not-false}
-use denote.Ref.{now}
 use Rattle.execution.specs.Memory.{secondBy}
 use Rattle.execution.proofs.MemoryLaws.{access-room}
 use borrow.Author.Needs.{needs}

@@ -1,8 +1,6 @@
 use Prim.Native.Nat.{ℕ}
-use mathlib.Core.Path.{_≡_, sym, ap, _∙_}
+use mathlib.Core.Path.{sym, ap, _∙_}
 use native.Mathlib.Omega.{arith}
-use denote.Ref.{now}
-use Rattle.execution.specs.Actions.{Action}
 use Rattle.execution.specs.Codes.{actionAt}
 use Rattle.execution.proofs.ActionLaws.{of-class}
 use Rattle.execution.proofs.MemoryLaws.{second-signed, second-unsigned, second-other}

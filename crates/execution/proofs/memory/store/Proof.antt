@@ -1,5 +1,5 @@
 use Prim.Native.Nat.{ℕ}
-use mathlib.Core.Path.{_≡_, ap, _∙_}
+use mathlib.Core.Path.{ap, _∙_}
 use denote.Ref.{now}
 use Rattle.execution.specs.Actions.{Action, actionOf}
 use Rattle.execution.specs.Memory.{storedBy}

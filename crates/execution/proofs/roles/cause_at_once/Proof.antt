@@ -1,5 +1,4 @@
-use Prim.Native.Nat.{ℕ}
-use mathlib.Core.Path.{_≡_, sym, ap, _∙_}
+use mathlib.Core.Path.{sym, _∙_}
 use Rattle.execution.specs.Actions.{actionOf}
 use Rattle.execution.proofs.ActionLaws.{class-at, kind-at}
 use Rattle.execution.proofs.RoleLaws.{stops-class, others-class}

@@ -1,6 +1,6 @@
 use mir.Syntax.{w32}
 use mir.ValLaws.{toZ-ofZ}
-use Rattle.isa.specs.Reads.{constantOf, fieldsOf}
+use Rattle.isa.specs.Reads.{fieldsOf}
 use Rattle.isa.proofs.FormatLaws.{no-format}
 use borrow.Author.Needs.{needs}
 use Rattle.isa.proofs.fields.fields.Statement.{statement}

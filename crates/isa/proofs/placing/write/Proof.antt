@@ -3,7 +3,6 @@ use mathlib.Core.Path.{_≡_, sym, ap, subst, _∙_}
 use native.Mathlib.Omega.{arith}
 use mir.Syntax.{w32}
 use mir.ValLaws.{toZ-ofZ}
-use Rattle.isa.specs.Listing.{formatOf}
 use Rattle.isa.specs.Codes.{formatAt}
 use Rattle.isa.specs.Encodes.{wordOf}
 use Rattle.isa.proofs.FormatLaws.{format-at, fixed-at}

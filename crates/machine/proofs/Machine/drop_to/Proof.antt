@@ -1,7 +1,6 @@
-use Prim.Native.Nat.{_≤_, _<_}
+use Prim.Native.Nat.{_≤_}
 use mathlib.Core.Path.{_≡_, refl, sym, ap, _∙_}
 use native.Mathlib.Omega.{arith}
-use borrow.Author.Needs.{needs}
 use Rattle.machine.specs.declared.Machine.{Machine}
 use Rattle.machine.specs.Drop.{dropTo}
 use Rattle.machine.proofs.DropLaws.{drop-count, drop-more, drop-done}

@@ -1,6 +1,5 @@
-use Prim.Native.Nat.{ℕ}
 use mathlib.Core.Path.{_≡_, ap, _∙_}
-use lib.ListN.{length, length-set}
+use lib.ListN.{length}
 use Rattle.tables.proofs.TableLaws.{store-length}
 use Rattle.machine.proofs.DropLaws.{dropped}
 use borrow.Author.Needs.{needs}

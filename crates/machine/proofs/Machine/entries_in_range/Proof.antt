@@ -1,10 +1,9 @@
-use Prim.Native.Nat.{ℕ, _+_, _-_, _≤_, _<_}
+use Prim.Native.Nat.{_-_, _≤_}
 use mathlib.Core.Bool.{_&&_}
-use mathlib.Core.Path.{_≡_, refl, sym, ap, _∙_}
+use mathlib.Core.Path.{_≡_, sym, _∙_}
 use native.Mathlib.Nat.{sub-zero}
 use native.Mathlib.Omega.{arith}
 use borrow.Author.Needs.{needs}
-use lib.ListN.{length}
 use Rattle.tables.specs.Entry.{emptyEntry}
 use Rattle.machine.specs.Range.{everyFrom, entryInRange}
 use Rattle.machine.proofs.RangeLaws.{every-turn, every-done}

@@ -1,8 +1,7 @@
-use Prim.Native.Nat.{_≤_}
-use mathlib.Core.Path.{_≡_, sym, _∙_}
+use mathlib.Core.Path.{sym, _∙_}
 use native.Mathlib.Omega.{arith}
 use borrow.Author.Tests.{not-true, not-false}
-use Rattle.machine.proofs.RangeLaws.{setup-refused, count-refused, swept, SetupSizes, setup-sizes}
+use Rattle.machine.proofs.RangeLaws.{setup-refused, count-refused, swept, setup-sizes}
 use borrow.Author.Needs.{needs}
 use Rattle.machine.proofs.Machine.in_range.Statement.{statement}
 use Rattle.machine.proofs.Machine.in_range.Tie as tie

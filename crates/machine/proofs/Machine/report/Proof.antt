@@ -1,9 +1,8 @@
-use mathlib.Core.Path.{_≡_, sym, ap, _∙_}
+use mathlib.Core.Path.{sym, ap, _∙_}
 use mathlib.Core.List.{List}
 use Prim.Native.Nat.{ℕ}
 use borrow.Author.Tests.{not-true, not-false}
 use Rattle.machine.specs.declared.Machine.{Machine}
-use Rattle.machine.specs.declared.Report.{Report}
 use Rattle.machine.specs.Report.{valuesIn}
 use Rattle.machine.proofs.ReportLaws.{report-refused, report-given, in-range-count}
 use borrow.Author.Needs.{needs}

@@ -1,8 +1,6 @@
-use mathlib.Core.Path.{_≡_, sym, ap, _∙_}
+use mathlib.Core.Path.{sym, ap, _∙_}
 use native.Mathlib.Omega.{arith}
-use Prim.Native.Nat.{ℕ}
 use Rattle.machine.specs.declared.Machine.{Machine}
-use Rattle.machine.specs.declared.Answer.{Answer}
 use Rattle.machine.proofs.SetUpLaws.{Sizes, accepted-sizes, answer-refused, answer-fresh}
 use borrow.Author.Needs.{needs}
 use Rattle.machine.proofs.Machine.set_up.Statement.{statement}

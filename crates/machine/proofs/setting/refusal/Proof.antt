@@ -1,5 +1,5 @@
 use borrow.Author.Tests.{not-true, not-false}
-use mathlib.Core.Path.{_≡_, _∙_}
+use mathlib.Core.Path.{_∙_}
 use Rattle.machine.proofs.SetUpLaws.{window-refused, file-refused, lengths-refused}
 use borrow.Author.Needs.{needs}
 use Rattle.machine.proofs.setting.refusal.Statement.{statement}

@@ -1,6 +1,4 @@
-use native.Mathlib.Omega.{arith}
 use Rattle.laws.proofs.Bools.{impossible}
-use borrow.Author.Needs.{needs}
 use Rattle.playing.proofs.ways.decodes.Statement.{statement}
 use Rattle.playing.proofs.ways.decodes.Tie as tie
 

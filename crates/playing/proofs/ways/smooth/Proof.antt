@@ -1,5 +1,4 @@
 use Rattle.laws.proofs.Bools.{impossible}
-use borrow.Author.Needs.{needs}
 use Rattle.playing.proofs.ways.smooth.Statement.{statement}
 use Rattle.playing.proofs.ways.smooth.Tie as tie
 

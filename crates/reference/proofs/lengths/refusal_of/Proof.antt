@@ -1,4 +1,3 @@
-use mathlib.Core.Path.{_≡_}
 use borrow.Author.Tests.{not-true, not-false, le-leb, lt-leb}
 use Rattle.reference.proofs.LengthLaws.{program-refused, data-refused, none-refused}
 use Rattle.reference.proofs.lengths.refusal_of.Statement.{statement}

@@ -1,8 +1,7 @@
-use mathlib.Core.Path.{_≡_, sym, ap, _∙_}
+use mathlib.Core.Path.{sym, ap, _∙_}
 use native.Mathlib.Omega.{arith}
 use borrow.Author.Tests.{not-true, not-false}
 use denote.Ref.{now}
-use Prim.Native.Nat.{ℕ}
 use Rattle.isa.specs.Reads.{numbersOf, readOf}
 use Rattle.reference.proofs.FetchLaws.{fetch-outside, fetch-illegal, fetch-legal}
 use Rattle.execution.proofs.MemoryLaws.{access-room}

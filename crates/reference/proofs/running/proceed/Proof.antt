@@ -1,16 +1,15 @@
 use Rattle.reference.specs.Step.{Step}
 use Rattle.reference.proofs.StepLaws.{step-registers, step-kept}
 use Rattle.reference.proofs.RunLaws.{after-zero, answer-of}
-use Prim.Native.Nat.{ℕ, _+_, _-_, _≤_, _<_}
+use Prim.Native.Nat.{ℕ, _-_, _≤_}
 use mathlib.Core.Path.{_≡_, refl, sym, ap, _∙_}
-use mathlib.Core.List.{List}
-use native.Mathlib.Nat.{sub-zero, zero-add}
+use native.Mathlib.Nat.{sub-zero}
 use native.Mathlib.Omega.{arith}
 use borrow.Author.Needs.{needs}
 use denote.Ref.{now}
 use lib.ListN.{length}
-use Rattle.reference.specs.Step.{State, state, reached}
-use Rattle.reference.specs.Run.{Run, after, runOf, runAnswer}
+use Rattle.reference.specs.Step.{State, state}
+use Rattle.reference.specs.Run.{after, runOf}
 use Rattle.reference.proofs.RunLaws.{goes-on, stops-there, is-over}
 use Rattle.reference.proofs.running.proceed.Statement.{statement}
 use Rattle.reference.proofs.running.proceed.Tie as tie

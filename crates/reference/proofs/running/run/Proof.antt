@@ -1,4 +1,4 @@
-use mathlib.Core.Path.{_≡_, _∙_}
+use mathlib.Core.Path.{_∙_}
 use denote.Ref.{now}
 use Rattle.reference.specs.Step.{state}
 use Rattle.reference.proofs.RunLaws.{run-refused, run-accepted}

@@ -1,4 +1,3 @@
-use mathlib.Core.Path.{_≡_}
 use denote.Ref.{now}
 use Rattle.reference.specs.Step.{state}
 use Rattle.reference.proofs.StepLaws.{step-refused, step-accepted}

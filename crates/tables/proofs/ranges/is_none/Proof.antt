@@ -1,6 +1,4 @@
 use borrow.Author.Needs.{needs}
-use mir.Syntax.{w32}
-use mir.ValLaws.{toZ-ofZ}
 use Rattle.tables.proofs.RangeLaws.{zero-bits}
 use Rattle.tables.proofs.ranges.is_none.Statement.{statement}
 use Rattle.tables.proofs.ranges.is_none.Tie as tie

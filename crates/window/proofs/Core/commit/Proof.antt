@@ -1,4 +1,4 @@
-use mathlib.Core.Path.{_≡_, sym, ap, _∙_}
+use mathlib.Core.Path.{sym, _∙_}
 use denote.Ref.{now}
 use Rattle.machine.specs.Call.{lentRefusal, inTurn}
 use Rattle.committing.specs.Commit.{commitRefusal, commitOf}

@@ -1,4 +1,4 @@
-use mathlib.Core.Path.{_≡_, sym, ap, _∙_}
+use mathlib.Core.Path.{_∙_}
 use denote.Ref.{now}
 use Rattle.window.specs.Handed as Handed
 use Rattle.window.proofs.DrainLaws.{needs-issue, needs-complete, needs-commit}

@@ -1,16 +1,15 @@
 use borrow.Author.Needs.{needs}
 use Prim.Native.Nat.{ℕ, _-_, _≤_}
-use mathlib.Core.Path.{_≡_, refl, sym, ap, _∙_}
+use mathlib.Core.Path.{_≡_, ap, _∙_}
 use mathlib.Core.List.{List}
 use native.Mathlib.Omega.{arith}
 use Rattle.tables.specs.Entry.{sleepEntry}
 use Rattle.tables.specs.declared.Entry.{Entry}
-use Rattle.machine.specs.declared.Machine.{Machine}
 use Rattle.machine.specs.Setters.{withEntries}
 use Rattle.machine.specs.Changes.{changeFirst}
-use Rattle.completing.proofs.CompleteLaws.{change-none, change-turn}
-use Rattle.completing.proofs.sleep_all.Statement.{statement}
-use Rattle.completing.proofs.sleep_all.Tie as tie
+use Rattle.machine.proofs.ChangeLaws.{change-none, change-turn}
+use Rattle.stealing.proofs.sleep_all.Statement.{statement}
+use Rattle.stealing.proofs.sleep_all.Tie as tie
 
 abbrev Inv-loop : tie.InvT-loop
 Inv-loop name self₀ count k₀ self k = (k ≤ count) × (self ≡ withEntries (changeFirst k (sleepEntry name) (self₀ .entries)) self₀)

@@ -1,9 +1,9 @@
-use mathlib.Core.Path.{_≡_, sym, ap, _∙_}
+use mathlib.Core.Path.{_≡_, _∙_}
 use lib.ListN.{length}
-use Rattle.completing.proofs.CompleteLaws.{robbed-is}
+use Rattle.stealing.proofs.StealLaws.{robbed-is}
 use borrow.Author.Needs.{needs}
-use Rattle.completing.proofs.robbed.Statement.{statement}
-use Rattle.completing.proofs.robbed.Tie as tie
+use Rattle.stealing.proofs.robbed.Statement.{statement}
+use Rattle.stealing.proofs.robbed.Tie as tie
 
 mapregister-long : (s : tie.Start) → length (s .args .t1 .mapregister) ≡ 32
 mapregister-long s = search needs

@@ -1,11 +1,11 @@
 use borrow.Author.Needs.{needs}
 use Prim.Native.Nat.{ℕ, suc, _-_, _≤_, _<_}
-use mathlib.Core.Path.{_≡_, refl, sym, ap, _∙_}
+use mathlib.Core.Path.{_≡_, sym, ap, _∙_}
 use native.Mathlib.Omega.{arith}
-use Rattle.completing.specs.Complete.{victimAmong, victimOf}
-use Rattle.completing.proofs.CompleteLaws.{found-at, passed-at, none-at}
-use Rattle.completing.proofs.victim.Statement.{statement}
-use Rattle.completing.proofs.victim.Tie as tie
+use Rattle.stealing.specs.Steal.{victimAmong, victimOf}
+use Rattle.stealing.proofs.StealLaws.{found-at, passed-at, none-at}
+use Rattle.stealing.proofs.victim.Statement.{statement}
+use Rattle.stealing.proofs.victim.Tie as tie
 
 abbrev Inv-loop : tie.InvT-loop
 Inv-loop position self k₀ k = (position ≤ k) × (k < self .count) × (victimAmong (k - position) (self .physical) (self .entries) position ≡ victimOf self position)

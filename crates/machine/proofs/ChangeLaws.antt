@@ -1,0 +1,37 @@
+-- A loop over the entries that changes them alike.
+use Prim.Native.Nat.{ℕ, zero, suc, _+_}
+use mathlib.Core.Path.{_≡_, refl, sym, ap, _∙_}
+use mathlib.Core.List.{List, [], _∷_}
+use native.Mathlib.Numerals.{add-one}
+use lib.ListN.{length, getD, set}
+use Rattle.tables.specs.Entry.{emptyEntry}
+use Rattle.tables.specs.declared.Entry.{Entry}
+use Rattle.machine.specs.declared.Machine.{Machine}
+use Rattle.machine.specs.Setters.{withEntries}
+use Rattle.machine.specs.Changes.{changeFirst}
+
+pub change-none : {A : Type 0} (f : A → A) (elements : List A) → elements ≡ changeFirst 0 f elements
+unfolding changeFirst
+change-none f elements = refl
+
+pub change-more : {A : Type 0} (f : A → A) (default : A) (n : ℕ) (elements : List A)
+    → set (changeFirst n f elements) n (f (getD (changeFirst n f elements) n default)) ≡ changeFirst (suc n) f elements
+unfolding changeFirst
+change-more f default zero [] = refl
+change-more f default zero (e ∷ elements) = refl
+change-more f default (suc n) [] = refl
+change-more f default (suc n) (e ∷ elements) = ap (λ (rest : List _). f e ∷ rest) (change-more f default n elements)
+
+pub change-length : {A : Type 0} (f : A → A) (n : ℕ) (elements : List A) → length (changeFirst n f elements) ≡ length elements
+unfolding changeFirst
+change-length f zero elements = refl
+change-length f (suc n) [] = refl
+change-length f (suc n) (e ∷ elements) = ap suc (change-length f n elements)
+
+-- one turn of such a loop, on the machine
+pub change-turn : (m k : Machine) (f : Entry → Entry) (n : ℕ) (e : Entry) → k ≡ withEntries (changeFirst n f (m .entries)) m → e ≡ f (getD (k .entries) n emptyEntry)
+    → withEntries (set (k .entries) n e) k ≡ withEntries (changeFirst (n + 1) f (m .entries)) m
+change-turn m k f n e h g =
+    ap (λ (x : Entry). withEntries (set (k .entries) n x) k) g
+    ∙ ap (λ (x : Machine). withEntries (set (x .entries) n (f (getD (x .entries) n emptyEntry))) x) h
+    ∙ ap (λ (entries : List Entry). withEntries entries m) (change-more f emptyEntry n (m .entries) ∙ ap (λ (j : ℕ). changeFirst j f (m .entries)) (sym (add-one n)))

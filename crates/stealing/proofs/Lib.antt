@@ -1,0 +1,2 @@
+-- Laws of the theft.
+pub mod StealLaws
