@@ -9,7 +9,7 @@ use Rattle.tables.specs.Entry.{emptyEntry, withOperands, waitingEntry, complete
 use Rattle.tables.specs.declared.Operand.{Operand}
 use Rattle.tables.specs.declared.Operand.the-variants.{Zero, Waiting, Ready}
 use Rattle.tables.specs.declared.Entry.{Entry}
-use Rattle.machine.specs.declared.Setup.{Setup}
+use Rattle.ranges.specs.declared.Setup.{Setup}
 use Rattle.machine.specs.declared.Machine.{Machine}
 
 -- names and registers are the general map's

@@ -12,12 +12,15 @@ use Rattle.isa.specs.Reads.{choose}
 use Rattle.laws.proofs.Bools.{impossible, and-left, and-right}
 use Rattle.tables.specs.Entry.{emptyEntry}
 use Rattle.tables.specs.declared.Entry.{Entry}
-use Rattle.machine.specs.Range.{everyFrom, setupInRange, entryInRange, entriesInRange, tablesInRange, machineInRange}
+use Rattle.machine.specs.Range.{entriesInRange, tablesInRange, machineInRange}
+use Rattle.ranges.specs.Tables.{everyFrom}
+use Rattle.ranges.specs.Sizes.{setupInRange}
+use Rattle.ranges.specs.Entries.{entryInRange}
 use Rattle.machine.specs.Call.{lentRefusal}
 use Rattle.machine.specs.Changes.{entryAt}
 use Rattle.committing.specs.Commit.{Commit}
 use Rattle.window.specs.Drain.{neededOf, Drain, idle, drainEnds, drainFrom, drainOf}
-use Rattle.machine.specs.declared.Setup.{Setup}
+use Rattle.ranges.specs.declared.Setup.{Setup}
 use Rattle.machine.specs.declared.Machine.{Machine}
 use Rattle.machine.proofs.RefusalLaws.{in-range-lent}
 use Rattle.agreement.proofs.Tests.{by-choice}

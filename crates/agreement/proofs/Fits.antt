@@ -8,7 +8,7 @@ use Rattle.reference.specs.Fetch.{fetchAt}
 use Rattle.reference.proofs.Laws.{statement}
 use Rattle.tables.specs.Entry.{stoppedEntry, completedEntry, held}
 use Rattle.tables.specs.declared.Entry.{Entry}
-use Rattle.machine.specs.Range.{setupInRange}
+use Rattle.ranges.specs.Sizes.{setupInRange}
 use Rattle.machine.specs.Changes.{entryAt, place}
 use Rattle.machine.specs.Drop.{dropTo}
 use Rattle.decoding.specs.Decode.{entryFor}
@@ -16,7 +16,7 @@ use Rattle.issuing.specs.Issue.{issued}
 use Rattle.completing.specs.Complete.{outcomeAt, learned}
 use Rattle.stealing.specs.Steal.{robbed}
 use Rattle.committing.specs.Commit.{retired}
-use Rattle.machine.specs.declared.Setup.{Setup}
+use Rattle.ranges.specs.declared.Setup.{Setup}
 use Rattle.machine.specs.declared.Machine.{Machine}
 use Rattle.agreement.specs.Lists.{Call, World, Made, madeBy}
 use Rattle.agreement.proofs.Kept.{Kept, kept-enter, kept-place, kept-robbed, kept-learned, kept-drops, kept-redirected, kept-retired, kept-halted}

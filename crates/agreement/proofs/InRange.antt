@@ -14,12 +14,13 @@ use Rattle.tables.specs.Entry.{emptyEntry, isCompleted}
 use Rattle.tables.specs.declared.State.{State as Stage}
 use Rattle.tables.specs.declared.State.the-variants.{Waits, Issued, Completed}
 use Rattle.tables.specs.declared.Entry.{Entry}
-use Rattle.machine.specs.Machine.{namesOf}
-use Rattle.machine.specs.Range.{within, setupInRange, entryInRange, entriesInRange, tablesInRange, machineInRange}
-use Rattle.tables.specs.Ranges.{operandInRange, isNone, instructionInRange, causeInRange, storeInRange}
-use Rattle.machine.specs.declared.Setup.{Setup}
+use Rattle.ranges.specs.Sizes.{namesOf, setupInRange}
+use Rattle.machine.specs.Range.{entriesInRange, tablesInRange, machineInRange}
+use Rattle.ranges.specs.Tables.{within, tablesWithin}
+use Rattle.ranges.specs.Entries.{entryInRange, operandInRange, isNone, instructionInRange, causeInRange, storeInRange}
+use Rattle.ranges.specs.declared.Setup.{Setup}
 use Rattle.machine.specs.declared.Machine.{Machine}
-use Rattle.machine.proofs.RangeLaws.{every-holds}
+use Rattle.ranges.proofs.TableLaws.{every-holds}
 use Rattle.agreement.proofs.Core.{Core, coreOf, operandFor}
 use Rattle.agreement.proofs.Kept.{Kept}
 use Rattle.agreement.proofs.Views.{seen-length, seen-entry}
@@ -106,7 +107,7 @@ within-holds limit from count table h = every-holds (λ (n : ℕ). leb n limit) 
 
 module _ (m : Machine) (k : Kept m) (r : InRange (coreOf m)) where
   tables : tablesInRange m ≡ true
-  unfolding tablesInRange
+  unfolding tablesWithin
   tables =
       let n : ℕ = m .setup .registers in
       let a : ℕ = namesOf (m .setup .window) in

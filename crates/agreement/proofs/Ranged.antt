@@ -30,8 +30,8 @@ use Rattle.tables.specs.Entry.{emptyEntry, isWaiting, isIssued}
 use Rattle.tables.specs.declared.Operand.{Operand}
 use Rattle.tables.specs.declared.State.the-variants.{Completed}
 use Rattle.tables.specs.declared.Entry.{Entry}
-use Rattle.machine.specs.Range.{setupInRange}
-use Rattle.tables.specs.Ranges.{operandInRange, isNone}
+use Rattle.ranges.specs.Sizes.{setupInRange}
+use Rattle.ranges.specs.Entries.{operandInRange, isNone}
 use Rattle.decoding.specs.Decode.{enteringCause}
 use Rattle.agreement.proofs.Core.{Core, operandFor, nameIn}
 use Rattle.agreement.proofs.Ghost.{Ghost}

@@ -10,12 +10,13 @@ use lib.ListN.{length}
 use Rattle.laws.proofs.Bools.{and-left}
 use Rattle.reference.specs.Step.{State}
 use Rattle.execution.specs.declared.Stop.{Stop}
-use Rattle.machine.specs.SetUp.{freshMachine, setUpRefusal}
-use Rattle.machine.specs.Range.{setupInRange, tablesInRange, entriesInRange, machineInRange}
+use Rattle.machine.specs.SetUp.{freshMachine}
+use Rattle.ranges.specs.Sizes.{setUpRefusal, setupInRange}
+use Rattle.machine.specs.Range.{tablesInRange, entriesInRange, machineInRange}
 use Rattle.machine.specs.Call.{lentRefusal}
 use Rattle.machine.specs.declared.Machine.{Machine}
 use Rattle.machine.proofs.FreshInRange.{fresh-in-range}
-use Rattle.machine.proofs.SetUpLaws.{accepted-sizes}
+use Rattle.ranges.proofs.SizeLaws.{accepted-sizes}
 use Rattle.agreement.specs.Lists.{Event, World, makeAll, acceptedCommits, started, origin}
 use Rattle.agreement.specs.Unrefused.{Unrefused}
 use Rattle.agreement.proofs.Core.{coreOf}

@@ -11,10 +11,11 @@ use lib.Seq.{getD-append-add}
 use Rattle.reference.specs.Step.{readRegister}
 use Rattle.tables.specs.FreeList.{occurrences, Pool}
 use Rattle.tables.proofs.TableLaws.{look-within}
-use Rattle.machine.specs.SetUp.{ownNumbers, risingNext, risingLink, freshMachine, setUpRefusal}
+use Rattle.machine.specs.SetUp.{ownNumbers, risingNext, risingLink, freshMachine}
+use Rattle.ranges.specs.Sizes.{setUpRefusal}
 use Rattle.machine.specs.Statement.{rising, Fresh}
 use Rattle.machine.proofs.TabulateLaws.{tabulate-length, tabulate-at}
-use Rattle.machine.proofs.SetUpLaws.{Sizes, accepted-sizes}
+use Rattle.ranges.proofs.SizeLaws.{Sizes, accepted-sizes}
 use Rattle.machine.proofs.FreshInRange.{statement}
 use Rattle.agreement.specs.Lists.{origin}
 use Rattle.agreement.proofs.Core.{Core, coreOf}

@@ -5,7 +5,7 @@ use mathlib.Core.Logic.{_≢_}
 use mathlib.Core.Bool.{true}
 use mathlib.Core.List.{List}
 use lib.ListN.{length}
-use Rattle.machine.specs.SetUp.{setUpRefusal}
+use Rattle.ranges.specs.Sizes.{setUpRefusal}
 use Rattle.machine.specs.Call.{lentRefusal}
 use Rattle.machine.specs.Changes.{entryAt}
 use Rattle.window.specs.Drain.{Drain, idle, drainEnds, drainOf}

@@ -6,7 +6,7 @@ use lib.Dec.{eqb}
 use lib.ListN.{length}
 use Rattle.isa.specs.Reads.{choose}
 use Rattle.reference.specs.Run.{Run, runOf}
-use Rattle.machine.specs.SetUp.{setUpRefusal}
+use Rattle.ranges.specs.Sizes.{setUpRefusal}
 use Rattle.machine.specs.Report.{reportOf}
 use Rattle.agreement.specs.Lists.{Event, World, makeAll, acceptedCommits, started, origin, CommitsWithin}
 

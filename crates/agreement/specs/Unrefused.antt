@@ -4,7 +4,7 @@ use mathlib.Core.Path.{_≡_}
 use mathlib.Core.Bool.{true}
 use mathlib.Core.List.{List}
 use lib.ListN.{length}
-use Rattle.machine.specs.SetUp.{setUpRefusal}
+use Rattle.ranges.specs.Sizes.{setUpRefusal}
 use Rattle.machine.specs.Range.{machineInRange}
 use Rattle.agreement.specs.Lists.{Event, World, makeAll, started}
 

@@ -6,7 +6,8 @@ use mathlib.Core.List.{List}
 use native.Mathlib.Omega.{arith}
 use borrow.Author.Tests.{eq-eqb, ne-eqb}
 use lib.ListN.{length}
-use Rattle.machine.specs.SetUp.{freshMachine, setUpRefusal, setUpOf}
+use Rattle.machine.specs.SetUp.{freshMachine, setUpOf}
+use Rattle.ranges.specs.Sizes.{setUpRefusal}
 use Rattle.machine.specs.Report.{reportOf}
 use Rattle.machine.specs.declared.Answer.{Answer}
 use Rattle.machine.specs.declared.Report.{Report}

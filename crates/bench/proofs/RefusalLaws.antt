@@ -9,7 +9,7 @@ use lib.Dec.{eqb}
 use lib.ListN.{length}
 use Rattle.isa.specs.Reads.{choose}
 use Rattle.reference.specs.Step.{when, first, lengthRefusal}
-use Rattle.machine.specs.SetUp.{setUpRefusal}
+use Rattle.ranges.specs.Sizes.{setUpRefusal}
 use Rattle.formats.specs.Schedule.{scheduleFits, malformed, windowIn, registersIn, headRefusal}
 use Rattle.formats.specs.Chain.{scheduleRefusal}
 use Rattle.formats.proofs.HeadLaws.{at-least}

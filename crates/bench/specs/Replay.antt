@@ -6,7 +6,7 @@ use lib.Dec.{eqb}
 use lib.ListN.{length, drop, replicate}
 use Rattle.isa.specs.Reads.{choose}
 use Rattle.reference.specs.Step.{when, first, lengthRefusal}
-use Rattle.machine.specs.SetUp.{setUpRefusal}
+use Rattle.ranges.specs.Sizes.{setUpRefusal}
 use Rattle.machine.specs.Report.{reportOf}
 use Rattle.formats.specs.Schedule.{windowIn, registersIn, headRefusal}
 use Rattle.formats.specs.Chain.{scheduleRefusal}

@@ -6,7 +6,7 @@ ghost use Rattle.bench.specs.Replay as Replay;
 use crate::Replayed;
 use events::Counts;
 use machine::Machine;
-use machine::setting;
+use ranges::sizes;
 
 // the first refusal, before any event, or 0
 fn refusal(program: &[u8], data: &[u8], schedule: &[u8], size: usize) -> u8
@@ -25,7 +25,7 @@ fn refusal(program: &[u8], data: &[u8], schedule: &[u8], size: usize) -> u8
     }
     let window = formats::window_in(schedule) as u32;
     let registers = formats::registers_in(schedule) as u32;
-    let set = setting::refusal(window, registers, program.len(), data.len());
+    let set = sizes::refusal(window, registers, program.len(), data.len());
     if set != 0 {
         return set;
     }

@@ -6,7 +6,8 @@ use mathlib.Core.List.{List}
 use lib.ListN.{length}
 use Rattle.formats.specs.Schedule.{scheduleFits, windowIn, registersIn}
 use Rattle.formats.specs.Chain.{scheduleRefusal, eventsOf}
-use Rattle.machine.specs.SetUp.{freshMachine, setUpRefusal}
+use Rattle.machine.specs.SetUp.{freshMachine}
+use Rattle.ranges.specs.Sizes.{setUpRefusal}
 use Rattle.machine.specs.declared.Machine.{Machine}
 use Rattle.agreement.specs.Lists.{started}
 use Rattle.events.specs.Counts.{Played, playedAll, noCounts}

@@ -11,14 +11,15 @@ use Rattle.laws.proofs.Bools.{both}
 use Rattle.laws.proofs.Table.{anywhere}
 use Rattle.isa.specs.Reads.{choose}
 use Rattle.reference.specs.Step.{programFits, dataFits}
-use Rattle.machine.specs.Machine.{namesOf}
-use Rattle.machine.specs.SetUp.{ownNumbers, risingNext, risingLink, freshMachine, setUpRefusal}
-use Rattle.machine.specs.Range.{everyFrom, within, setupInRange, tablesInRange, machineInRange}
+use Rattle.ranges.specs.Sizes.{namesOf, setUpRefusal, setupInRange}
+use Rattle.machine.specs.SetUp.{ownNumbers, risingNext, risingLink, freshMachine}
+use Rattle.machine.specs.Range.{tablesInRange, machineInRange}
+use Rattle.ranges.specs.Tables.{everyFrom, within, tablesWithin}
 use Rattle.machine.specs.Statement.{rising, Statement}
 use Rattle.tables.specs.FreeList.{Pool}
 use Rattle.machine.proofs.FreshLaws.{rising-pool}
-use Rattle.machine.proofs.RangeLaws.{every-holds}
-use Rattle.machine.proofs.SetUpLaws.{none-applies, accepted-sizes}
+use Rattle.ranges.proofs.TableLaws.{every-holds}
+use Rattle.ranges.proofs.SizeLaws.{none-applies, accepted-sizes}
 use Rattle.machine.proofs.TabulateLaws.{tabulate-at}
 
 -- the numbers of a table are at most 31
@@ -52,7 +53,7 @@ module _ (window registers program bytes : ℕ) (accepted : setUpRefusal window 
       both (both (both (both (both (le-leb 1 window (s .window-from)) (le-leb window 64 (s .window-to))) (le-leb 32 registers (s .registers-from))) (le-leb registers 95 (s .registers-to))) (t .2)) (t .3)
 
   tables : tablesInRange (freshMachine window registers program bytes) ≡ true
-  unfolding tablesInRange
+  unfolding tablesWithin
   tables =
       let s = accepted-sizes window registers program bytes accepted in
       let n : 31 ≤ registers = omega arith in

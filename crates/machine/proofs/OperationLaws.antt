@@ -14,10 +14,12 @@ use Rattle.isa.proofs.Accepted.{accepted-says}
 use Rattle.isa.specs.declared.Instruction.{Instruction}
 use Rattle.tables.specs.Entry.{emptyEntry, isCompleted}
 use Rattle.tables.specs.declared.Entry.{Entry}
-use Rattle.machine.specs.declared.Setup.{Setup}
+use Rattle.ranges.specs.declared.Setup.{Setup}
 use Rattle.machine.specs.declared.Machine.{Machine}
-use Rattle.machine.specs.Range.{everyFrom, entryInRange, setupInRange, tablesInRange, entriesInRange, machineInRange}
-use Rattle.tables.specs.Ranges.{isNone}
+use Rattle.machine.specs.Range.{tablesInRange, entriesInRange, machineInRange}
+use Rattle.ranges.specs.Tables.{everyFrom}
+use Rattle.ranges.specs.Entries.{entryInRange, isNone}
+use Rattle.ranges.specs.Sizes.{setupInRange}
 
 -- what a sweep says of an element
 pub every-says : {A : Type 0} (test : A → Bool) (default : A) (from count k : ℕ) (table : List A) → everyFrom test default from count table ≡ true → k < count

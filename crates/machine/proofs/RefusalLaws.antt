@@ -9,9 +9,10 @@ use Rattle.isa.specs.Reads.{choose}
 use Rattle.laws.proofs.Bools.{and-left, impossible}
 use Rattle.reference.specs.Step.{when, first}
 use Rattle.machine.specs.declared.Machine.{Machine}
-use Rattle.machine.specs.Range.{setupInRange, tablesInRange, entriesInRange, machineInRange}
+use Rattle.machine.specs.Range.{tablesInRange, entriesInRange, machineInRange}
+use Rattle.ranges.specs.Sizes.{setupInRange}
 use Rattle.machine.specs.Call.{lengthsDiffer, lentRefusal, answered, inTurn}
-use Rattle.machine.proofs.RangeLaws.{setup-sizes}
+use Rattle.ranges.proofs.SizeLaws.{setup-sizes}
 
 -- the first refusal applies, or the next ones are looked at
 pub first-applies : (b : Bool) (n : ℕ) (rest : List ℕ) → b ≡ true → eqb n 0 ≡ false → n ≡ first (when b n ∷ rest)

@@ -9,9 +9,10 @@ use lib.ListN.{replicate}
 use Rattle.laws.proofs.Bools.{and-left, and-right}
 use Rattle.machine.specs.declared.Machine.{Machine}
 use Rattle.machine.specs.Drop.{dropTo}
-use Rattle.machine.specs.Range.{setupInRange, tablesInRange, entriesInRange, machineInRange}
+use Rattle.machine.specs.Range.{tablesInRange, entriesInRange, machineInRange}
+use Rattle.ranges.specs.Sizes.{setupInRange}
 use Rattle.machine.specs.Report.{valuesIn, reportOf}
-use Rattle.machine.proofs.RangeLaws.{setup-sizes}
+use Rattle.ranges.proofs.SizeLaws.{setup-sizes}
 
 pub report-refused : (m : Machine) → machineInRange m ≡ false → record { registers = replicate 32 0; number = 5 } ≡ reportOf m
 unfolding reportOf

@@ -1,16 +1,12 @@
 -- The machine.
-use Prim.Native.Nat.{ℕ, zero, suc, _+_}
+use Prim.Native.Nat.{ℕ, zero, suc}
 use mathlib.Core.Bool.{false}
 use mathlib.Core.List.{List, [], _∷_}
 use lib.ListN.{replicate}
 use Rattle.execution.specs.Execute.{stop}
 use Rattle.tables.specs.Entry.{emptyEntry}
-use Rattle.machine.specs.declared.Setup.{Setup}
+use Rattle.ranges.specs.Sizes.{setupOf}
 use Rattle.machine.specs.declared.Machine.{Machine}
-
--- "Virtual names 1 to 31 + W."
-abbrev pub namesOf : ℕ → ℕ
-namesOf window = 31 + window
 
 -- f at 0, 1, …, n − 1
 unfoldable pub tabulateFrom : ℕ → ℕ → (ℕ → ℕ) → List ℕ
@@ -19,9 +15,6 @@ tabulateFrom k (suc n) f = f k ∷ tabulateFrom (suc k) n f
 
 abbrev pub tabulate : ℕ → (ℕ → ℕ) → List ℕ
 tabulate n f = tabulateFrom 0 n f
-
-abbrev pub setupOf : ℕ → ℕ → ℕ → ℕ → Setup
-setupOf window registers program bytes = record { window = window; registers = registers; program = program; bytes = bytes }
 
 -- "a machine of zeros"
 abbrev pub zeroMachine : Machine

@@ -1,14 +1,14 @@
 -- Set-up.
 use Prim.Native.Nat.{ℕ, _+_}
-use mathlib.Core.Bool.{true, false, not, _&&_}
+use mathlib.Core.Bool.{true, false, _&&_}
 use mathlib.Core.List.{List, [], _∷_, _++_}
 use lib.Dec.{leb, ltb, eqb}
 use lib.ListN.{replicate}
 use Rattle.isa.specs.Reads.{choose}
 use Rattle.execution.specs.Execute.{stop}
-use Rattle.reference.specs.Step.{when, first, programFits, dataFits}
 use Rattle.tables.specs.Entry.{emptyEntry}
-use Rattle.machine.specs.Machine.{namesOf, tabulate, setupOf, zeroMachine}
+use Rattle.ranges.specs.Sizes.{setupOf, namesOf, setUpRefusal}
+use Rattle.machine.specs.Machine.{tabulate, zeroMachine}
 use Rattle.machine.specs.declared.Machine.{Machine}
 use Rattle.machine.specs.declared.Answer.{Answer}
 
@@ -45,16 +45,6 @@ freshMachine window registers program bytes =
       next = 0;
       halt = stop 0;
     }
-
--- "1 W out of range; 2 N out of range; 3 program length; 4 data length"
-unfoldable pub setUpRefusal : ℕ → ℕ → ℕ → ℕ → ℕ
-setUpRefusal window registers program bytes =
-    first
-    (when (not (leb 1 window && leb window 64)) 1
-    ∷ when (not (leb 32 registers && leb registers 95)) 2
-    ∷ when (not (programFits program)) 3
-    ∷ when (not (dataFits bytes)) 4
-    ∷ [])
 
 -- "A refused set-up returns a machine of zeros."
 unfoldable pub setUpOf : ℕ → ℕ → ℕ → ℕ → Answer

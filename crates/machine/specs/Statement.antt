@@ -4,7 +4,8 @@ use mathlib.Core.Path.{_≡_}
 use mathlib.Core.Bool.{true}
 use mathlib.Core.List.{List, [], _∷_}
 use Rattle.tables.specs.FreeList.{Pool}
-use Rattle.machine.specs.SetUp.{freshMachine, setUpRefusal}
+use Rattle.machine.specs.SetUp.{freshMachine}
+use Rattle.ranges.specs.Sizes.{setUpRefusal}
 use Rattle.machine.specs.Range.{machineInRange}
 
 -- count numbers from one on, in rising order

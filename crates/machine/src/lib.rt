@@ -6,15 +6,8 @@ pub mod reporting;
 pub mod setting;
 
 use execution::Stop;
+pub use ranges::Setup;
 use tables::Entry;
-
-// Window W, registers N, and the lengths of program and data.
-pub struct Setup {
-    pub window: u8,
-    pub registers: u8,
-    pub program: u16,
-    pub bytes: u16,
-}
 
 // The machine: under 4 KB, by value. Every table is a field of its own; index 0 of a table is nobody's.
 pub struct Machine {

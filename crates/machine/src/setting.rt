@@ -2,11 +2,12 @@ ghost use mathlib.Core.Path.{_≡_};
 ghost use Prim.Native.Nat.{_≤_, _<_};
 ghost use lib.ListN.{length};
 ghost use Rattle.machine.specs.Machine as Machines;
-ghost use Rattle.machine.specs.SetUp.{risingNext, risingLink, freshMachine, setUpRefusal, setUpOf};
+ghost use Rattle.machine.specs.SetUp.{risingNext, risingLink, freshMachine, setUpOf};
 use crate::Answer;
 use crate::Machine;
-use crate::Setup;
 use execution::Stop;
+use ranges::Setup;
+use ranges::sizes;
 use tables::entries;
 
 // the number after k in a pool of 32 to last
@@ -32,21 +33,6 @@ fn rise(link: &mut [u8; 96], last: u8)
         link[k] = successor(k, end);
         k += 1;
     }
-}
-
-// refusals 1 to 4, or 0
-pub fn refusal(window: u32, registers: u32, program: usize, bytes: usize) -> u8
-    ensures { λ r. ⌜ r ≡ setUpRefusal window registers program bytes ⌝ }
-{
-    let windowed = (1 <= window) & (window <= 64);
-    if !windowed {
-        return 1;
-    }
-    let filed = (32 <= registers) & (registers <= 95);
-    if !filed {
-        return 2;
-    }
-    reference::lengths::refusal_of(program, bytes)
 }
 
 // logical r has name r and register r
@@ -284,7 +270,7 @@ impl Machine {
     pub fn set_up(window: u32, registers: u32, program: usize, bytes: usize) -> Answer
         ensures { λ r. ⌜ r ≡ setUpOf window registers program bytes ⌝ }
     {
-        let number = refusal(window, registers, program, bytes);
+        let number = sizes::refusal(window, registers, program, bytes);
         if number != 0 {
             return Answer {
                 machine: zeros(),

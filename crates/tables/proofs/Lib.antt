@@ -1,4 +1,3 @@
 -- Laws of the tables.
 pub mod TableLaws
 pub mod PoolLaws
-pub mod RangeLaws

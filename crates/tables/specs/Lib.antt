@@ -3,4 +3,3 @@ pub mod Table
 pub mod FreeList
 pub mod Operand
 pub mod Entry
-pub mod Ranges

@@ -3,7 +3,6 @@ pub mod entries;
 pub mod free_list;
 pub mod maps;
 pub mod operands;
-pub mod ranges;
 
 use execution::Stop;
 use isa::Instruction;

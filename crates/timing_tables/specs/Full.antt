@@ -9,7 +9,7 @@ use Rattle.tables.specs.Entry.{emptyEntry}
 use Rattle.tables.specs.declared.Operand.the-variants.{Waiting}
 use Rattle.tables.specs.declared.State.the-variants.{Completed}
 use Rattle.tables.specs.declared.Entry.{Entry}
-use Rattle.machine.specs.Machine.{setupOf}
+use Rattle.ranges.specs.Sizes.{setupOf}
 use Rattle.machine.specs.declared.Machine.{Machine}
 use Rattle.timing_tables.specs.Repeated.{repeated}
 

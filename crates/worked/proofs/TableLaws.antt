@@ -15,8 +15,11 @@ use Rattle.execution.specs.Roles.{loadsBy, storesBy, causeBy, predictedBy}
 use Rattle.reference.specs.Step.{readRegister, writeRegister, stepWith, first}
 use Rattle.tables.specs.Table.{lookUnder, storeUnder}
 use Rattle.machine.specs.Machine.{tabulateFrom}
-use Rattle.machine.specs.SetUp.{risingLink, setUpRefusal, setUpOf}
-use Rattle.machine.specs.Range.{everyFrom, entryInRange, tablesInRange, machineInRange}
+use Rattle.machine.specs.SetUp.{risingLink, setUpOf}
+use Rattle.ranges.specs.Sizes.{setUpRefusal}
+use Rattle.machine.specs.Range.{machineInRange}
+use Rattle.ranges.specs.Tables.{everyFrom, tablesWithin}
+use Rattle.ranges.specs.Entries.{entryInRange}
 use Rattle.machine.specs.Call.{lentRefusal}
 use Rattle.machine.specs.Changes.{changeFirst}
 use Rattle.decoding.specs.Decode.{decodeRefusal, enter, decodeOf}
@@ -33,7 +36,7 @@ use Rattle.worked.proofs.ClaimLaws.{says}
 
 -- computed from the definitions
 pub passes : check ≡ true
-unfolding field extend number put fixedPart operationFrom operationOf constantOf fieldsOf readOf within accepted constantPart wordOf accessible secondBy storedBy endsWithinBy executedBy fetchAt loadsBy storesBy causeBy predictedBy readRegister writeRegister stepWith first lookUnder storeUnder tabulateFrom risingLink setUpRefusal setUpOf everyFrom entryInRange tablesInRange machineInRange changeFirst lentRefusal decodeRefusal enter decodeOf storeBelow issueRefusal issued issueOf victimAmong completeRefusal robbed learned redirected completeOf commitRefusal moveDown retired commitOf make makeAll sameList answersFrom test every
+unfolding field extend number put fixedPart operationFrom operationOf constantOf fieldsOf readOf within accepted constantPart wordOf accessible secondBy storedBy endsWithinBy executedBy fetchAt loadsBy storesBy causeBy predictedBy readRegister writeRegister stepWith first lookUnder storeUnder tabulateFrom risingLink setUpRefusal setUpOf everyFrom entryInRange tablesWithin machineInRange changeFirst lentRefusal decodeRefusal enter decodeOf storeBelow issueRefusal issued issueOf victimAmong completeRefusal robbed learned redirected completeOf commitRefusal moveDown retired commitOf make makeAll sameList answersFrom test every
 passes = refl
 
 -- what passes at every row passes at each

@@ -5,8 +5,9 @@ use native.Mathlib.Nat.{sub-zero}
 use native.Mathlib.Omega.{arith}
 use borrow.Author.Needs.{needs}
 use Rattle.tables.specs.Entry.{emptyEntry}
-use Rattle.machine.specs.Range.{everyFrom, entryInRange}
-use Rattle.machine.proofs.RangeLaws.{every-turn, every-done}
+use Rattle.ranges.specs.Tables.{everyFrom}
+use Rattle.ranges.specs.Entries.{entryInRange}
+use Rattle.ranges.proofs.TableLaws.{every-turn, every-done}
 use Rattle.machine.proofs.Machine.entries_in_range.Statement.{statement}
 use Rattle.machine.proofs.Machine.entries_in_range.Tie as tie
 

@@ -1,7 +1,8 @@
 use mathlib.Core.Path.{sym, ap, _∙_}
 use native.Mathlib.Omega.{arith}
 use Rattle.machine.specs.declared.Machine.{Machine}
-use Rattle.machine.proofs.SetUpLaws.{Sizes, accepted-sizes, answer-refused, answer-fresh}
+use Rattle.machine.proofs.SetUpLaws.{answer-refused, answer-fresh}
+use Rattle.ranges.proofs.SizeLaws.{Sizes, accepted-sizes}
 use borrow.Author.Needs.{needs}
 use Rattle.machine.proofs.Machine.set_up.Statement.{statement}
 use Rattle.machine.proofs.Machine.set_up.Tie as tie

@@ -1,0 +1,48 @@
+// What refusal 5 looks at in the tables. Tests are joined without early exit, so that loops are made of wide instructions.
+ghost use mathlib.Core.Path.{_≡_};
+ghost use Prim.Native.Nat.{_≤_, _<_};
+ghost use lib.ListN.{length};
+ghost use Rattle.ranges.specs.Tables as Tables;
+use crate::Setup;
+use execution::Stop;
+
+// the numbers at 1 to count are at most the limit
+fn within(limit: u8, count: usize, table: &[u8]) -> bool
+    requires { ⌜ count < length (now table) ⌝ }
+    ensures { λ r. ⌜ r ≡ Tables.within limit 1 count (now (table .entry)) ⌝ }
+{
+    let mut good = true;
+    let mut k: usize = 0;
+    while k < count {
+        good = good & (table[k + 1] <= limit);
+        k += 1;
+    }
+    good
+}
+
+// heads and links of the pools, the physical map, the general map, the halt's cause
+pub fn tables_in_range<'a>(
+    s: Setup,
+    registerhead: u8,
+    registerlink: &'a [u8; 96],
+    namehead: u8,
+    namelink: &'a [u8; 96],
+    physical: &'a [u8; 96],
+    mapname: &'a [u8; 32],
+    mapregister: &'a [u8; 32],
+    halt: Stop,
+) -> bool
+    requires { ⌜ (s .window ≤ 64) × (s .registers ≤ 95) × (length (now registerlink) ≡ 96) × (length (now namelink) ≡ 96) × (length (now physical) ≡ 96) × (length (now mapname) ≡ 32) × (length (now mapregister) ≡ 32) ⌝ }
+    ensures { λ r. ⌜ r ≡ Tables.tablesWithin s registerhead (now (registerlink .entry)) namehead (now (namelink .entry)) (now (physical .entry)) (now (mapname .entry)) (now (mapregister .entry)) halt ⌝ }
+{
+    let registers = s.registers;
+    let names = 31 + s.window;
+    (registerhead <= registers)
+        & within(registers, registers as usize, registerlink)
+        & (namehead <= names)
+        & within(names, names as usize, namelink)
+        & within(registers, names as usize, physical)
+        & within(names, 31, mapname)
+        & within(registers, 31, mapregister)
+        & (halt.cause <= 7)
+}
