@@ -1,62 +1,23 @@
 //! The speed of the in-order run beside a plain Rust interpreter and, where it is installed, QEMU with one instruction
 //! a block; then of the tables. Started by the script `benchmark`; docs/SPEED.md says what the figures mean.
+mod figures;
 mod interpreter;
 mod plain_tables;
 mod qemu;
 mod tables;
+mod timing;
 
+use figures::{at_four_places, nanoseconds, Best, Difference, Table, BEST_OF};
 use std::fs;
-use std::hint::black_box;
 use std::os::unix::fs::PermissionsExt;
 use std::path::{Path, PathBuf};
-use std::time::{Duration, Instant};
+use std::time::Duration;
 
-/// Each time is the best of this many, at each of four places of the stack.
-const BEST_OF: usize = 5;
 /// Calls of the run, of 65,535 steps each: about two million steps in a sample, and enough for a whole loop.
 const SAMPLE: u32 = 31;
 const WHOLE: u32 = 1_000;
 const DATA: usize = 16_384;
 const WORDS: usize = 4_096;
-
-/// What the crate `timing` exports.
-mod timing {
-    #[repr(C)]
-    pub struct Timed {
-        pub steps: u64,
-        pub cause: u32,
-        pub refusal: u32,
-    }
-
-    extern "C" {
-        fn timing_run(
-            program: *const u8,
-            bytes: usize,
-            data: *mut u8,
-            length: usize,
-            calls: u32,
-        ) -> Timed;
-        fn timing_find(words: *const u32, count: usize, rounds: u32) -> u64;
-    }
-
-    pub fn run(program: &[u8], data: &mut [u8], calls: u32) -> Timed {
-        // SAFETY: neither function requires anything but that a slice is one.
-        unsafe {
-            timing_run(
-                program.as_ptr(),
-                program.len(),
-                data.as_mut_ptr(),
-                data.len(),
-                calls,
-            )
-        }
-    }
-
-    pub fn find(words: &[u32], rounds: u32) -> u64 {
-        // SAFETY: as above.
-        unsafe { timing_find(words.as_ptr(), words.len(), rounds) }
-    }
-}
 
 /// The plain interpreter over as many calls, in the form of `timing::run`.
 fn plain_run(program: &[u8], data: &mut [u8], calls: u32) -> timing::Timed {
@@ -106,39 +67,6 @@ fn compared(name: &str, program: &[u8], data: &[u8]) -> (u64, Vec<u8>) {
     (r.steps, left)
 }
 
-fn nanoseconds(took: Duration, steps: u64) -> f64 {
-    took.as_secs_f64() * 1e9 / steps as f64
-}
-
-/// The least time of all samples, in nanoseconds a step.
-struct Best(f64);
-
-impl Best {
-    fn sample(&mut self, work: impl FnOnce() -> u64) {
-        let began = Instant::now();
-        let steps = work();
-        self.0 = self.0.min(nanoseconds(began.elapsed(), steps));
-    }
-}
-
-/// Works with the stack lower by some bytes: a table on it costs more where it lies across lines of the cache or pages.
-#[inline(never)]
-fn lower<const BYTES: usize>(work: &mut dyn FnMut()) {
-    let unused = [0u8; BYTES];
-    black_box(&unused);
-    work();
-}
-
-/// Works `BEST_OF` times at each of four places of the stack.
-fn at_four_places(work: &mut dyn FnMut()) {
-    for _ in 0..BEST_OF {
-        lower::<16>(work);
-        lower::<1_056>(work);
-        lower::<2_096>(work);
-        lower::<3_136>(work);
-    }
-}
-
 struct Times {
     reference: f64,
     find: f64,
@@ -148,13 +76,12 @@ struct Times {
 fn times(program: &[u8], data: &[u8]) -> Times {
     let words = words_read(program, data);
     let rounds = SAMPLE * 65_535 / WORDS as u32;
-    let (mut reference, mut find, mut plain) = (Best(f64::MAX), Best(f64::MAX), Best(f64::MAX));
+    let (mut reference, mut find, mut plain) = (Best::new(), Best::new(), Best::new());
     at_four_places(&mut || {
         let mut d = data.to_vec();
         reference.sample(|| timing::run(program, &mut d, SAMPLE).steps);
-        find.sample(|| {
-            assert!(timing::find(&words, rounds) > 0);
-            rounds as u64 * WORDS as u64
+        find.sample_parts(rounds as u64 * WORDS as u64, || {
+            timing::find(&words, rounds)
         });
         d.copy_from_slice(data);
         plain.sample(|| plain_run(program, &mut d, SAMPLE).steps);
@@ -184,53 +111,31 @@ fn emulated(name: &str, q: &Qemu, file: &Path, steps: u64, left: &[u8]) -> f64 {
     nanoseconds(whole.saturating_sub(start), steps)
 }
 
-fn measure(name: &str, program: &[u8], data: &[u8], room: &Path, qemu: Option<&Qemu>) {
-    let (steps, left) = compared(name, program, data);
+/// Prints the rows of a loop; the last is QEMU's, with the option that it was given.
+fn print(title: &str, times: &Times, qemu: Option<(&str, f64)>) {
     let Times {
         reference,
         find,
         plain,
-    } = times(program, data);
-    let file = room.join(name).with_extension("elf");
-    write_program(&file, &qemu::elf(program, data));
-    let qemu = qemu.map(|q| (q.option, emulated(name, q, &file, steps, &left)));
-
-    let line = |what: &str, rate: String, ns: String, ratio: String| {
-        println!("| {what:<31} | {rate:>8} | {ns:>12} | {ratio:>12} |")
-    };
+    } = *times;
+    let table = Table([31, 8, 12, 12]);
     let row = |what: &str, ns: f64| {
-        line(
+        table.line([
             what,
-            format!("{:.1}", 1e3 / ns),
-            format!("{ns:.2}"),
-            format!("{:.2}", ns / plain),
-        )
+            &format!("{:.1}", 1e3 / ns),
+            &format!("{ns:.2}"),
+            &format!("{:.2}", ns / plain),
+        ])
     };
-    let too = if qemu.is_some() {
-        "; QEMU's data too"
-    } else {
-        ""
-    };
-    println!();
-    println!("The {name} loop, {steps} steps to its ECALL. Steps, cause and data agree{too}.");
-    println!();
-    line("", "Msteps/s".into(), "ns/step".into(), "ratio".into());
-    println!(
-        "|{}|{}:|{}:|{}:|",
-        "-".repeat(33),
-        "-".repeat(9),
-        "-".repeat(13),
-        "-".repeat(13)
-    );
+    table.head(title, ["", "Msteps/s", "ns/step", "ratio"]);
     row("in-order run", reference);
-    // the search is timed by itself, where it may take a tenth more or less
-    let (without, error) = (reference - find, find / 10.0);
-    line(
+    let without = Difference::of(reference, find);
+    table.line([
         "in-order run without the search",
-        String::new(),
-        format!("{without:.1} ± {error:.1}"),
-        format!("{:.1} ± {:.1}", without / plain, error / plain),
-    );
+        "",
+        &without.text(1.0),
+        &without.text(plain),
+    ]);
     row("plain Rust interpreter", plain);
     if let Some((option, ns)) = qemu {
         row(&format!("qemu-riscv32 {option}"), ns);
@@ -240,6 +145,21 @@ fn measure(name: &str, program: &[u8], data: &[u8], room: &Path, qemu: Option<&Q
         "The search for the operation takes {find:.1} ns, {:.0}% of the in-order run.",
         100.0 * find / reference
     );
+}
+
+fn measure(name: &str, program: &[u8], data: &[u8], room: &Path, qemu: Option<&Qemu>) {
+    let (steps, left) = compared(name, program, data);
+    let times = times(program, data);
+    let file = room.join(name).with_extension("elf");
+    write_program(&file, &qemu::elf(program, data));
+    let qemu = qemu.map(|q| (q.option, emulated(name, q, &file, steps, &left)));
+    let too = match qemu {
+        Some(_) => "; QEMU's data too",
+        None => "",
+    };
+    let title =
+        format!("The {name} loop, {steps} steps to its ECALL. Steps, cause and data agree{too}.");
+    print(&title, &times, qemu);
 }
 
 fn write_program(path: &Path, bytes: &[u8]) {

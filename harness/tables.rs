@@ -1,6 +1,7 @@
 //! The times of the tables beside the same in plain Rust, in place.
+use crate::figures::{at_four_places, Best, Difference, Table};
 use crate::plain_tables as plain;
-use crate::{at_four_places, Best};
+use crate::timing;
 
 /// Samples of about a millisecond: one that nothing else disturbs is soon among them.
 const TAKES: u32 = 400_000;
@@ -10,30 +11,6 @@ const DROPS_OF_ONE: u32 = 5_000;
 /// So many times the samples of the run.
 const TIMES_THE_RUNS: usize = 10;
 const ENTRIES: u8 = 64;
-
-/// What the crate `timing_tables` exports.
-mod timing {
-    extern "C" {
-        fn timing_take(rounds: u32) -> u8;
-        fn timing_wake(rounds: u32, position: u8) -> u8;
-        fn timing_drop(rounds: u32, kept: u8) -> u64;
-    }
-
-    pub fn take(rounds: u32) -> u8 {
-        // SAFETY: none of the three requires anything.
-        unsafe { timing_take(rounds) }
-    }
-
-    pub fn wake(rounds: u32, position: u8) -> u8 {
-        // SAFETY: as above.
-        unsafe { timing_wake(rounds, position) }
-    }
-
-    pub fn drop(rounds: u32, kept: u8) -> u64 {
-        // SAFETY: as above.
-        unsafe { timing_drop(rounds, kept) }
-    }
-}
 
 /// The results of both, for small numbers of rounds, positions and kept entries.
 fn compared() {
@@ -63,32 +40,22 @@ struct Times {
 
 impl Times {
     fn new() -> Times {
-        let best = || Best(f64::MAX);
         Times {
-            take: best(),
-            wake: best(),
-            all: best(),
-            one: best(),
+            take: Best::new(),
+            wake: Best::new(),
+            all: Best::new(),
+            one: Best::new(),
         }
     }
 
     fn sample(&mut self, take: fn(u32) -> u8, wake: fn(u32, u8) -> u8, drop: fn(u32, u8) -> u64) {
-        self.take.sample(|| {
-            assert!(take(TAKES) > 0);
-            TAKES as u64
-        });
-        self.wake.sample(|| {
-            assert!(wake(WAKES, 0) > 0);
-            WAKES as u64
-        });
-        self.all.sample(|| {
-            assert!(drop(DROPS_OF_ALL, 0) > 0);
-            DROPS_OF_ALL as u64
-        });
-        self.one.sample(|| {
-            assert!(drop(DROPS_OF_ONE, ENTRIES - 1) > 0);
-            DROPS_OF_ONE as u64
-        });
+        self.take.sample_parts(TAKES as u64, || take(TAKES) as u64);
+        self.wake
+            .sample_parts(WAKES as u64, || wake(WAKES, 0) as u64);
+        self.all
+            .sample_parts(DROPS_OF_ALL as u64, || drop(DROPS_OF_ALL, 0));
+        self.one
+            .sample_parts(DROPS_OF_ONE as u64, || drop(DROPS_OF_ONE, ENTRIES - 1));
     }
 
     /// an entry more that a call drops
@@ -102,43 +69,32 @@ impl Times {
     }
 }
 
-fn line(what: &str, ns: String, plain: String, ratio: String) {
-    println!("| {what:<27} | {ns:>12} | {plain:>10} | {ratio:>12} |")
-}
-
-fn row(what: &str, ns: f64, plain: f64) {
-    line(
-        what,
-        format!("{ns:.2}"),
-        format!("{plain:.2}"),
-        format!("{:.2}", ns / plain),
-    )
-}
-
 fn print(ours: &Times, theirs: &Times) {
-    println!();
-    println!("The tables. Results agree.");
-    println!();
-    line("", "ns".into(), "plain Rust".into(), "ratio".into());
-    println!(
-        "|{}|{}:|{}:|{}:|",
-        "-".repeat(29),
-        "-".repeat(13),
-        "-".repeat(11),
-        "-".repeat(13)
+    let table = Table([27, 12, 10, 12]);
+    let row = |what: &str, ns: f64, plain: f64| {
+        table.line([
+            what,
+            &format!("{ns:.2}"),
+            &format!("{plain:.2}"),
+            &format!("{:.2}", ns / plain),
+        ])
+    };
+    table.head(
+        "The tables. Results agree.",
+        ["", "ns", "plain Rust", "ratio"],
     );
     row("take and free of a register", ours.take.0, theirs.take.0);
     row("wake over 64 entries", ours.wake.0, theirs.wake.0);
     row("drop of an entry", ours.entry(), theirs.entry());
-    // the compiled loop copies the machine twice for an entry; the copies may take a tenth more or less
-    let (copies, plain) = (2.0 * ours.copy(), theirs.entry());
-    let (without, error) = (ours.entry() - copies, copies / 10.0);
-    line(
+    // the compiled loop copies the machine twice for an entry
+    let without = Difference::of(ours.entry(), 2.0 * ours.copy());
+    let plain = theirs.entry();
+    table.line([
         "drop without its two copies",
-        format!("{without:.1} ± {error:.1}"),
-        format!("{plain:.2}"),
-        format!("{:.1} ± {:.1}", without / plain, error / plain),
-    );
+        &without.text(1.0),
+        &format!("{plain:.2}"),
+        &without.text(plain),
+    ]);
     row("copy of the machine", ours.copy(), theirs.copy());
 }
 
