@@ -7,7 +7,7 @@
 //!     expected result, 156 bytes, which are 0xa5 if the replay is refused and must leave the buffer alone; 4 zeros
 use opinion::cases::word_of;
 use opinion::replay::{self, RESULT};
-use opinion::schedule::{self, Event};
+use opinion::schedule::{self, Event, RECORD};
 use opinion::words::{Instruction, LISTING};
 use std::fs;
 use std::path::Path;
@@ -15,7 +15,6 @@ use std::path::Path;
 const PATTERN: u8 = 0xa5;
 const RUNS: &str = include_str!("stored_runs.txt");
 
-#[derive(Clone)]
 struct Case {
     name: String,
     program: Vec<u8>,
@@ -26,7 +25,6 @@ struct Case {
 }
 
 /// What a case must give, found by hand.
-#[derive(Clone)]
 enum Expected {
     Refusal(u32),
     Run {
@@ -74,13 +72,8 @@ fn code_word(item: &str) -> u32 {
         .find(|row| called(&format!("{:?}", row.0)))
         .unwrap_or_else(|| panic!("no operation {item}"));
     let field = |place: usize| parts.get(place).map_or(0, |text| number(text));
-    word_of(&Instruction {
-        operation: row.0,
-        rd: field(1) as u8,
-        rs1: field(2) as u8,
-        rs2: field(3) as u8,
-        constant: field(4),
-    })
+    let [rd, rs1, rs2] = [1, 2, 3].map(|place| field(place) as u8);
+    word_of(&Instruction::new(row.0, rd, rs1, rs2, field(4)))
 }
 
 fn code(text: &str) -> Vec<u8> {
@@ -170,189 +163,129 @@ registers 1=5
 stores 1=5")
 }
 
-/// Damage done to the good case.
-type Damage = fn(&mut Case);
+/// A change of the good case.
+enum Change {
+    /// Cut, or filled up with zeros, to this length.
+    Program(usize),
+    Data(usize),
+    Schedule(usize),
+    ResultLength(usize),
+    /// A byte of a record: its index, which of its bytes, and the value.
+    Byte(usize, usize, u8),
+    /// The next index of a record.
+    Next(usize, u16),
+}
+use Change::*;
 
-fn from_good(name: &str, expected: Expected, damage: Damage) -> Case {
-    let mut case = good();
-    (case.name, case.expected) = (name.into(), expected);
-    damage(&mut case);
-    case
+impl Change {
+    fn make(&self, case: &mut Case) {
+        match *self {
+            Program(length) => case.program.resize(length, 0),
+            Data(length) => case.data.resize(length, 0),
+            Schedule(length) => case.schedule.resize(length, 0),
+            ResultLength(length) => case.result_length = length,
+            Byte(record, byte, value) => case.schedule[record * RECORD + byte] = value,
+            Next(record, next) => set_next(case, record, next),
+        }
+    }
 }
 
 fn set_next(case: &mut Case, record: usize, next: u16) {
-    case.schedule[record * 8 + 2..][..2].copy_from_slice(&next.to_le_bytes());
+    case.schedule[record * RECORD + 2..][..2].copy_from_slice(&next.to_le_bytes());
 }
 
-fn set_byte(case: &mut Case, record: usize, byte: usize, value: u8) {
-    case.schedule[record * 8 + byte] = value;
+/// The same events, the last one in record 1 and the first one in record 10.
+fn against_the_files_order(case: &mut Case) {
+    let records: Vec<Vec<u8>> = case.schedule[RECORD..]
+        .chunks(RECORD)
+        .map(<[u8]>::to_vec)
+        .collect();
+    for (i, record) in records.iter().enumerate() {
+        let place = records.len() - i;
+        case.schedule[place * RECORD..][..RECORD].copy_from_slice(record);
+        set_next(case, place, place as u16 - 1);
+    }
+    set_next(case, 0, records.len() as u16);
 }
 
 /// Files that are unusual and good: they give what the good case gives.
-const UNUSUAL: [(&str, Damage); 4] = [
+const UNUSUAL: [(&str, fn(&mut Case)); 4] = [
     ("stores_and_halts", |_| {}),
-    ("chain_against_the_files_order", |c| {
-        let records: Vec<Vec<u8>> = c.schedule[8..].chunks(8).map(<[u8]>::to_vec).collect();
-        for (i, record) in records.iter().enumerate() {
-            let place = 10 - i;
-            c.schedule[place * 8..][..8].copy_from_slice(record);
-            set_next(c, place, place as u16 - 1);
-        }
-        set_next(c, 0, 10);
+    ("chain_against_the_files_order", against_the_files_order),
+    ("records_off_the_chain_hold_anything", |case| {
+        case.schedule.extend([0xff; 24])
     }),
-    ("records_off_the_chain_hold_anything", |c| {
-        c.schedule.extend([0xff; 24])
-    }),
-    ("longest_schedule", |c| c.schedule.resize(65_536, 0)),
+    ("longest_schedule", |case| case.schedule.resize(65_536, 0)),
 ];
 
-const REFUSED_LENGTHS: [(&str, u32, Damage); 14] = [
-    ("refusal_3_program_empty", 3, |c| c.program.clear()),
-    ("refusal_3_program_no_multiple_of_4", 3, |c| {
-        c.program.truncate(6)
-    }),
-    ("refusal_3_program_of_16388_bytes", 3, |c| {
-        c.program.resize(16_388, 0)
-    }),
-    ("refusal_4_data_of_16385_bytes", 4, |c| {
-        c.data.resize(16_385, 0)
-    }),
-    ("refusal_26_result_empty", 26, |c| c.result_length = 0),
-    ("refusal_26_result_of_155_bytes", 26, |c| {
-        c.result_length = 155
-    }),
-    ("refusal_26_result_of_157_bytes", 26, |c| {
-        c.result_length = 157
-    }),
-    ("refusal_20_schedule_empty", 20, |c| c.schedule.clear()),
-    ("refusal_20_schedule_no_multiple_of_8", 20, |c| {
-        c.schedule.truncate(20)
-    }),
-    ("refusal_20_schedule_of_65544_bytes", 20, |c| {
-        c.schedule.resize(65_544, 0)
-    }),
-    ("order_3_before_4", 3, |c| {
-        c.program.clear();
-        c.data.resize(16_385, 0);
-    }),
-    ("order_4_before_26", 4, |c| {
-        c.data.resize(16_385, 0);
-        c.result_length = 155;
-    }),
-    ("order_26_before_20", 26, |c| {
-        c.result_length = 155;
-        c.schedule.truncate(20);
-    }),
-    ("order_20_before_21", 20, |c| {
-        set_byte(c, 0, 0, 1);
-        c.schedule.truncate(20);
-    }),
-];
+/// Cases that are refused: the name, the number, and how they differ from the good case.
+#[rustfmt::skip]
+const REFUSED: [(&str, u32, &[Change]); 46] = [
+    ("refusal_3_program_empty", 3, &[Program(0)]),
+    ("refusal_3_program_no_multiple_of_4", 3, &[Program(6)]),
+    ("refusal_3_program_of_16388_bytes", 3, &[Program(16_388)]),
+    ("refusal_4_data_of_16385_bytes", 4, &[Data(16_385)]),
+    ("refusal_26_result_empty", 26, &[ResultLength(0)]),
+    ("refusal_26_result_of_155_bytes", 26, &[ResultLength(155)]),
+    ("refusal_26_result_of_157_bytes", 26, &[ResultLength(157)]),
+    ("refusal_20_schedule_empty", 20, &[Schedule(0)]),
+    ("refusal_20_schedule_no_multiple_of_8", 20, &[Schedule(20)]),
+    ("refusal_20_schedule_of_65544_bytes", 20, &[Schedule(65_544)]),
+    ("order_3_before_4", 3, &[Program(0), Data(16_385)]),
+    ("order_4_before_26", 4, &[Data(16_385), ResultLength(155)]),
+    ("order_26_before_20", 26, &[ResultLength(155), Schedule(20)]),
+    ("order_20_before_21", 20, &[Byte(0, 0, 1), Schedule(20)]),
 
-const REFUSED_HEADERS: [(&str, u32, Damage); 11] = [
-    ("refusal_21_record_0_of_kind_1", 21, |c| {
-        set_byte(c, 0, 0, 1)
-    }),
-    ("refusal_21_record_0_byte_5_not_0", 21, |c| {
-        set_byte(c, 0, 5, 1)
-    }),
-    ("refusal_21_record_0_byte_6_not_0", 21, |c| {
-        set_byte(c, 0, 6, 1)
-    }),
-    ("refusal_21_record_0_byte_7_not_0", 21, |c| {
-        set_byte(c, 0, 7, 1)
-    }),
-    ("refusal_1_window_0", 1, |c| set_byte(c, 0, 1, 0)),
-    ("refusal_1_window_65", 1, |c| set_byte(c, 0, 1, 65)),
-    ("refusal_2_registers_31", 2, |c| set_byte(c, 0, 4, 31)),
-    ("refusal_2_registers_96", 2, |c| set_byte(c, 0, 4, 96)),
-    ("order_21_before_1", 21, |c| {
-        set_byte(c, 0, 7, 1);
-        set_byte(c, 0, 1, 0);
-    }),
-    ("order_1_before_2", 1, |c| {
-        set_byte(c, 0, 1, 0);
-        set_byte(c, 0, 4, 31);
-    }),
-    ("order_2_before_22", 2, |c| {
-        set_byte(c, 0, 4, 31);
-        set_next(c, 0, 11);
-    }),
-];
+    ("refusal_21_record_0_of_kind_1", 21, &[Byte(0, 0, 1)]),
+    ("refusal_21_record_0_byte_5_not_0", 21, &[Byte(0, 5, 1)]),
+    ("refusal_21_record_0_byte_6_not_0", 21, &[Byte(0, 6, 1)]),
+    ("refusal_21_record_0_byte_7_not_0", 21, &[Byte(0, 7, 1)]),
+    ("refusal_1_window_0", 1, &[Byte(0, 1, 0)]),
+    ("refusal_1_window_65", 1, &[Byte(0, 1, 65)]),
+    ("refusal_2_registers_31", 2, &[Byte(0, 4, 31)]),
+    ("refusal_2_registers_96", 2, &[Byte(0, 4, 96)]),
+    ("order_21_before_1", 21, &[Byte(0, 7, 1), Byte(0, 1, 0)]),
+    ("order_1_before_2", 1, &[Byte(0, 1, 0), Byte(0, 4, 31)]),
+    ("order_2_before_22", 2, &[Byte(0, 4, 31), Next(0, 11)]),
 
-const REFUSED_CHAINS: [(&str, u32, Damage); 21] = [
-    ("refusal_22_first_beyond_the_file", 22, |c| {
-        set_next(c, 0, 11)
-    }),
-    ("refusal_22_next_beyond_the_file", 22, |c| {
-        set_next(c, 4, 11)
-    }),
-    ("refusal_22_next_of_65535", 22, |c| set_next(c, 10, 65_535)),
-    ("refusal_23_loop", 23, |c| set_next(c, 10, 1)),
-    ("refusal_23_record_leads_to_itself", 23, |c| {
-        set_next(c, 4, 4)
-    }),
-    ("refusal_24_kind_0", 24, |c| set_byte(c, 4, 0, 0)),
-    ("refusal_24_kind_5", 24, |c| set_byte(c, 4, 0, 5)),
-    ("refusal_24_kind_255", 24, |c| set_byte(c, 10, 0, 255)),
-    ("refusal_25_decode_with_a_position", 25, |c| {
-        set_byte(c, 1, 1, 1)
-    }),
-    ("refusal_25_issue_with_a_guess", 25, |c| {
-        set_byte(c, 2, 4, 1)
-    }),
-    ("refusal_25_complete_with_a_guess", 25, |c| {
-        set_byte(c, 3, 7, 1)
-    }),
-    ("refusal_25_commit_with_a_position", 25, |c| {
-        set_byte(c, 4, 1, 1)
-    }),
-    ("refusal_25_commit_with_a_guess", 25, |c| {
-        set_byte(c, 4, 5, 1)
-    }),
-    ("order_24_before_25_in_a_record", 24, |c| {
-        set_byte(c, 4, 0, 5);
-        set_byte(c, 4, 1, 1);
-        set_byte(c, 4, 4, 1);
-    }),
-    ("order_24_before_25_with_kind_0", 24, |c| {
-        set_byte(c, 4, 0, 0);
-        set_byte(c, 4, 4, 1);
-    }),
-    ("order_24_before_22_of_the_index_after_it", 24, |c| {
-        set_byte(c, 4, 0, 5);
-        set_next(c, 4, 11);
-    }),
-    ("order_25_before_23_of_the_index_after_it", 25, |c| {
-        set_byte(c, 4, 1, 1);
-        set_next(c, 4, 4);
-    }),
-    ("order_22_before_24_later_in_the_file", 22, |c| {
-        set_next(c, 4, 11);
-        set_byte(c, 5, 0, 5);
-    }),
-    ("order_25_before_24_later_in_the_chain", 25, |c| {
-        set_byte(c, 4, 1, 1);
-        set_byte(c, 5, 0, 5);
-    }),
-    ("order_23_before_24_that_it_leaves_out", 23, |c| {
-        set_next(c, 4, 2);
-        set_byte(c, 5, 0, 5);
-    }),
-    ("refused_before_any_event", 24, |c| set_byte(c, 10, 0, 5)),
+    ("refusal_22_first_beyond_the_file", 22, &[Next(0, 11)]),
+    ("refusal_22_next_beyond_the_file", 22, &[Next(4, 11)]),
+    ("refusal_22_next_of_65535", 22, &[Next(10, 65_535)]),
+    ("refusal_23_loop", 23, &[Next(10, 1)]),
+    ("refusal_23_record_leads_to_itself", 23, &[Next(4, 4)]),
+    ("refusal_24_kind_0", 24, &[Byte(4, 0, 0)]),
+    ("refusal_24_kind_5", 24, &[Byte(4, 0, 5)]),
+    ("refusal_24_kind_255", 24, &[Byte(10, 0, 255)]),
+    ("refusal_25_decode_with_a_position", 25, &[Byte(1, 1, 1)]),
+    ("refusal_25_issue_with_a_guess", 25, &[Byte(2, 4, 1)]),
+    ("refusal_25_complete_with_a_guess", 25, &[Byte(3, 7, 1)]),
+    ("refusal_25_commit_with_a_position", 25, &[Byte(4, 1, 1)]),
+    ("refusal_25_commit_with_a_guess", 25, &[Byte(4, 5, 1)]),
+    ("order_24_before_25_in_a_record", 24, &[Byte(4, 0, 5), Byte(4, 1, 1), Byte(4, 4, 1)]),
+    ("order_24_before_25_with_kind_0", 24, &[Byte(4, 0, 0), Byte(4, 4, 1)]),
+    ("order_24_before_22_of_the_index_after_it", 24, &[Byte(4, 0, 5), Next(4, 11)]),
+    ("order_25_before_23_of_the_index_after_it", 25, &[Byte(4, 1, 1), Next(4, 4)]),
+    ("order_22_before_24_later_in_the_file", 22, &[Next(4, 11), Byte(5, 0, 5)]),
+    ("order_25_before_24_later_in_the_chain", 25, &[Byte(4, 1, 1), Byte(5, 0, 5)]),
+    ("order_23_before_24_that_it_leaves_out", 23, &[Next(4, 2), Byte(5, 0, 5)]),
+    ("refused_before_any_event", 24, &[Byte(10, 0, 5)]),
 ];
 
 fn all_cases() -> Vec<Case> {
     let mut cases: Vec<Case> = RUNS.split("\ncase ").skip(1).map(run).collect();
-    for (name, unusual) in UNUSUAL {
-        cases.push(from_good(name, good().expected, unusual));
+    for (name, change) in UNUSUAL {
+        let mut case = good();
+        case.name = name.into();
+        change(&mut case);
+        cases.push(case);
     }
-    let refused = REFUSED_LENGTHS
-        .into_iter()
-        .chain(REFUSED_HEADERS)
-        .chain(REFUSED_CHAINS);
-    for (name, number, damage) in refused {
-        cases.push(from_good(name, Expected::Refusal(number), damage));
+    for (name, number, changes) in REFUSED {
+        let mut case = good();
+        (case.name, case.expected) = (name.into(), Expected::Refusal(number));
+        for change in changes {
+            change.make(&mut case);
+        }
+        cases.push(case);
     }
     cases
 }
@@ -404,11 +337,8 @@ fn push_binary(file: &mut Vec<u8>, case: &Case) {
         case.schedule.len(),
         case.result_length,
     ];
-    for word in lengths
-        .map(|length| length as u32)
-        .into_iter()
-        .chain([number])
-    {
+    let words = lengths.map(|length| length as u32);
+    for word in words.into_iter().chain([number]) {
         file.extend(word.to_le_bytes());
     }
     file.extend([0; 12]);

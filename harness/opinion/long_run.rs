@@ -4,7 +4,7 @@ use crate::machine::{Machine, State};
 use crate::random::Random;
 use crate::replay;
 use crate::schedule::{self, Event};
-use crate::words::{Instruction, Operation, Operation::*};
+use crate::words::{Instruction, Operation::*};
 
 /// The events of the longest file.
 pub const EVENTS: usize = 8_191;
@@ -15,19 +15,10 @@ pub struct Long {
     pub schedule: Vec<u8>,
 }
 
-fn row(operation: Operation, rd: u8, rs1: u8, rs2: u8, constant: i32) -> Instruction {
-    Instruction {
-        operation,
-        rd,
-        rs1,
-        rs2,
-        constant,
-    }
-}
-
 /// Walks 1 KiB of data again and again: loads, mixes, stores, a branch that goes by the data, a call and its return.
 #[rustfmt::skip]
 fn program() -> Vec<u8> {
+    let row = Instruction::new;
     let rows = [
         row(Addi, 5, 0, 0, 0),      //  0       x5 = place
         row(Addi, 6, 0, 0, 1_024),  //  4       x6 = end

@@ -97,6 +97,16 @@ pub struct Instruction {
 }
 
 impl Instruction {
+    pub fn new(operation: Operation, rd: u8, rs1: u8, rs2: u8, constant: i32) -> Instruction {
+        Instruction {
+            operation,
+            rd,
+            rs1,
+            rs2,
+            constant,
+        }
+    }
+
     pub fn is_load(&self) -> bool {
         matches!(self.operation, Lb | Lh | Lw | Lbu | Lhu)
     }
@@ -173,16 +183,9 @@ const STORES: [Operation; 4] = [Sb, Sh, Sw, Nothing];
 
 /// An instruction with these fields, or none with zero fields.
 fn made(operation: Operation, rd: u32, rs1: u32, rs2: u32, constant: i32) -> Instruction {
-    if operation == Nothing {
-        return Instruction::default();
-    }
-    let [rd, rs1, rs2] = [rd as u8, rs1 as u8, rs2 as u8];
-    Instruction {
-        operation,
-        rd,
-        rs1,
-        rs2,
-        constant,
+    match operation {
+        Nothing => Instruction::default(),
+        _ => Instruction::new(operation, rd as u8, rs1 as u8, rs2 as u8, constant),
     }
 }
 
