@@ -117,7 +117,7 @@ class Machine:
     def ask(self, text):
         return self.bundle([text])[0]
 
-    # ---- memory and registers
+    # ---- memory and control registers
 
     def write(self, address, content):
         for i in range(0, len(content), 1024):
@@ -126,13 +126,6 @@ class Machine:
     def read(self, address, count):
         return b"".join(bytes.fromhex(self.ask("m%x,%x" % (address + i, min(1024, count - i))))
                         for i in range(0, count, 1024))
-
-    def registers(self):
-        """x0 to x31, and the address of the next instruction."""
-        return registers_of(self.ask("g"))
-
-    def set_registers(self, registers, address):
-        self.accept(self.ask(state(registers, address)), "registers")
 
     def control(self, number):
         return number_of(self.ask("p%x" % number))
@@ -183,6 +176,7 @@ def state(registers, address):
 
 
 def registers_of(text):
+    """x0 to x31, and the address of the next instruction."""
     values = struct.unpack("<33I", bytes.fromhex(text)[:132])
     return list(values[:32]), values[32]
 

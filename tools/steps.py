@@ -265,7 +265,7 @@ def store_place(trial, before):
 # ---- the file
 
 def examine(asked, records):
-    """Nothing lacks: numbers of each operation, ends of constants, registers, edge operands, places, stops."""
+    """Nothing is missing: numbers of each operation, ends of constants, registers, edge operands, places, stops."""
     for operation in range(1, ECALL):
         examine_operation(operation, [(t, r) for t, r in zip(asked, records) if t.instruction.operation == operation])
     stops = Counter(r[5] - 32 for r in records if 32 < r[5] < 64)

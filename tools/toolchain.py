@@ -1,5 +1,4 @@
 """GNU's and LLVM's assemblers and disassemblers for RV32IM: words from text, fields from words, and refusals of text."""
-import os
 import re
 import struct
 import subprocess

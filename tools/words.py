@@ -199,7 +199,7 @@ def make(chance, notes):
 
 
 def examine(records):
-    """Both assemblers write every legal word from its fields, QEMU without M refuses M's words, and nothing lacks."""
+    """Both assemblers write every legal word from its fields, QEMU without M refuses M's words, and nothing is missing."""
     legal = {word: i for word, i in records.items() if i}
     for assembler in toolchain.gnu_words, toolchain.llvm_words:
         assert assembler(legal.values()) == list(legal)
