@@ -80,7 +80,8 @@ enum cirnhogul_cause {
 };
 
 /* Makes the events of a schedule on a fresh machine. Data are changed as its stores change them, and the result gets its 39
-   words. Returns 0, or a refusal, which leaves data and result as they were. */
+   words. Returns 0, or a refusal, which leaves data and result as they were. An event that the machine refuses is counted in
+   the result, and the replay goes on. */
 uint32_t cirnhogul_replay(const uint8_t *program, size_t program_length, uint8_t *data, size_t data_length,
                           const uint8_t *schedule, size_t schedule_length, uint8_t *result, size_t result_length);
 
@@ -90,8 +91,9 @@ uint32_t cirnhogul_replay(const uint8_t *program, size_t program_length, uint8_t
        11 LB     12 LH     13 LW     14 LBU    15 LHU    16 SB     17 SH     18 SW     19 ADDI   20 SLTI
        21 SLTIU  22 XORI   23 ORI    24 ANDI   25 SLLI   26 SRLI   27 SRAI   28 ADD    29 SUB    30 SLL
        31 SLT    32 SLTU   33 XOR    34 SRL    35 SRA    36 OR     37 AND    38 ECALL  39 EBREAK
-   A field that the operation lacks must be 0. The constant of a branch and of JAL is the distance in bytes, that of a shift
-   the amount, that of LUI and AUIPC bits 31 to 12 as a number from 0. */
+   A field that the operation lacks must be 0. Registers are 0 to 31. The constant of a branch (-4,096 to 4,094) and of JAL
+   (-1,048,576 to 1,048,574) is the distance in bytes, even; that of a shift the amount (0 to 31); that of LUI and AUIPC bits 31
+   to 12 as a number from 0 (to 1,048,575). All other constants are -2,048 to 2,047. */
 uint64_t cirnhogul_encode(uint32_t operation, uint32_t rd, uint32_t rs1, uint32_t rs2, int32_t constant);
 
 #ifdef __cplusplus

@@ -113,13 +113,13 @@ impl Tally {
 /// What differs in a case, if anything does.
 fn compare_replay(case: &Case, tally: &mut Tally) -> Option<String> {
     let filled = vec![PATTERN; case.result_length];
-    let (mut our_data, mut our_result) = (Lent::new(&case.data), Lent::new(&filled));
+    let (mut expected_data, mut expected_result) = (Lent::new(&case.data), Lent::new(&filled));
     let (mut data, mut result) = (Lent::new(&case.data), Lent::new(&filled));
     let outcome = replay::counted(
         &case.program,
-        our_data.inner(),
+        expected_data.inner(),
         &case.schedule,
-        our_result.inner(),
+        expected_result.inner(),
     );
     tally.add(case, &outcome);
     let expected = outcome.as_ref().err().copied().unwrap_or(0);
@@ -127,10 +127,10 @@ fn compare_replay(case: &Case, tally: &mut Tally) -> Option<String> {
     if number != expected {
         return Some(format!("number {number}, expected {expected}"));
     }
-    if let Some(at) = our_data.first_difference(&data) {
+    if let Some(at) = expected_data.first_difference(&data) {
         return Some(format!("number {number}, data differ from byte {at}"));
     }
-    if let Some(at) = our_result.first_difference(&result) {
+    if let Some(at) = expected_result.first_difference(&result) {
         let word = at.div_euclid(4);
         return Some(format!(
             "number {number}, results differ from byte {at}, word {word}"

@@ -148,14 +148,15 @@ pub fn check_chain(schedule: &[u8], first: usize) -> Result<(), u32> {
     Ok(())
 }
 
+/// Refusals 24 and 25.
 fn check_event(event: Event) -> Result<(), u32> {
-    let must_be_zero = match event.kind {
+    let unwanted = match event.kind {
         DECODE => event.position != 0,
         ISSUE | COMPLETE => event.guess != 0,
         COMMIT => event.position != 0 || event.guess != 0,
         _ => return Err(24),
     };
-    if must_be_zero {
+    if unwanted {
         return Err(25);
     }
     Ok(())
