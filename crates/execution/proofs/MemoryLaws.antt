@@ -4,7 +4,7 @@ use mathlib.Core.Path.{_≡_, refl, ap}
 use mathlib.Core.Bool.{Bool, true, false}
 use mathlib.Core.List.{List}
 use native.Mathlib.Omega.{arith}
-use borrow.Author.Tests.{leb-true}
+use borrow.Author.Tests.{leb-true, le-leb, lt-leb}
 use lib.Dec.{leb, eqb}
 use lib.ListN.{length}
 use Rattle.word.specs.Bytes.{put}
@@ -58,13 +58,13 @@ second-same (Stores size) len address second f g same = refl
 second-same (Stops cause) len address second f g same = refl
 
 -- the memory after a store
-pub stored-done : (size address value : ℕ) (memory : List ℕ) → accessible (length memory) address size ≡ true → storedBy (Stores size) address value memory ≡ put memory address size value
+pub stored-done : (size address value : ℕ) (memory : List ℕ) → address + size ≤ length memory → storedBy (Stores size) address value memory ≡ put memory address size value
 unfolding storedBy
-stored-done size address value memory e = rw e
+stored-done size address value memory h = rw (le-leb (address + size) (length memory) h)
 
-pub stored-not : (size address value : ℕ) (memory : List ℕ) → accessible (length memory) address size ≡ false → storedBy (Stores size) address value memory ≡ memory
+pub stored-not : (size address value : ℕ) (memory : List ℕ) → length memory < address + size → storedBy (Stores size) address value memory ≡ memory
 unfolding storedBy
-stored-not size address value memory e = rw e
+stored-not size address value memory h = rw (lt-leb (address + size) (length memory) h)
 
 pub stored-other : (a : Action) (address value : ℕ) (memory : List ℕ) → (class a ≡ 10 → ⊥) → storedBy a address value memory ≡ memory
 unfolding storedBy
@@ -83,7 +83,7 @@ unfolding storedBy
 stored-length (Computes computation) address value memory = refl
 stored-length (LoadsSigned size) address value memory = refl
 stored-length (LoadsUnsigned size) address value memory = refl
-stored-length (Stores size) address value memory = choose-length (accessible (length memory) address size) (put memory address size value) memory (put-length size memory address value)
+stored-length (Stores size) address value memory = choose-length (leb (address + size) (length memory)) (put memory address size value) memory (put-length size memory address value)
 stored-length (Stops cause) address value memory = refl
 
 -- where a store ends

@@ -34,12 +34,12 @@ secondBy (Stops cause) length address second byte = second
 abbrev pub secondValue : Instruction → ℕ → ℕ → List ℕ → ℕ
 secondValue i first second memory = secondBy (actionOf (i .operation)) (length memory) (effective i first) second (byteOf memory)
 
--- the memory after a store; other instructions leave it
+-- "a store writes data": the memory after a store whose bytes stay within it; other instructions leave it. Causes are not looked at here.
 unfoldable pub storedBy : Action → ℕ → ℕ → List ℕ → List ℕ
 storedBy (Computes computation) address value memory = memory
 storedBy (LoadsSigned size) address value memory = memory
 storedBy (LoadsUnsigned size) address value memory = memory
-storedBy (Stores size) address value memory = choose (accessible (length memory) address size) (put memory address size value) memory
+storedBy (Stores size) address value memory = choose (leb (address + size) (length memory)) (put memory address size value) memory
 storedBy (Stops cause) address value memory = memory
 
 abbrev pub stored : Instruction → ℕ → ℕ → List ℕ → List ℕ

@@ -74,14 +74,16 @@ pub fn second_value(i: Instruction, data: &[u8], first: u32, second: u32) -> u32
     second_by(class, size, data, effective(i, first), second)
 }
 
-// the data after an action: a store writes them, others leave them
+// the data after an action: a store whose bytes stay within them writes them, others leave them
 pub fn store_by(class: u8, size: u8, data: &mut [u8], address: u32, second: u32)
     requires { ⌜ Sized class size ⌝ }
     ensures { λ r. ⌜ now («data» .exit) ≡ Memory.storedBy (actionAt class size) address second (now («data» .entry)) ⌝ }
 {
     if class == 10 {
-        if accessible(data.len(), address, size) {
-            word::store(data, address as usize, size as usize, second);
+        let at = address as usize;
+        let bytes = size as usize;
+        if at + bytes <= data.len() {
+            word::store(data, at, bytes, second);
         }
     }
 }
