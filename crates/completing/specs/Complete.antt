@@ -8,12 +8,11 @@ use Rattle.execution.specs.Execute.{executed}
 use Rattle.reference.specs.Step.{when, first}
 use Rattle.execution.specs.declared.Outcome.{Outcome}
 use Rattle.tables.specs.Table.{storeUnder}
-use Rattle.tables.specs.FreeList.{takenHead, takenLink}
 use Rattle.tables.specs.Entry.{isIssued, stoppedEntry, completedEntry, predictedEntry, wakeEntry, held}
 use Rattle.tables.specs.declared.Entry.{Entry}
 use Rattle.machine.specs.Call.{halted, noEntry, lentRefusal, inTurn, answered}
-use Rattle.machine.specs.Setters.{withValues, withFreeRegisters, withFetch}
-use Rattle.machine.specs.Changes.{entryAt, place, changeAll, mapsLearn}
+use Rattle.machine.specs.Setters.{withValues, withFetch}
+use Rattle.machine.specs.Changes.{entryAt, place, changeAll, takeRegister, mapsLearn}
 use Rattle.machine.specs.Drop.{dropTo}
 use Rattle.machine.specs.declared.Machine.{Machine}
 use Rattle.machine.specs.declared.Answer.{Answer}
@@ -57,8 +56,7 @@ learned position register result m =
     let e : Entry = entryAt m position in
     changeAll (wakeEntry (e .name) register)
     (mapsLearn (e .destination) (e .name) register true
-    (withValues (storeUnder (m .values) register result)
-    (withFreeRegisters (takenHead (m .registerlink) (m .registerhead)) (takenLink (m .registerlink) (m .registerhead)) (place position (completedEntry result e) m))))
+    (withValues (storeUnder (m .values) register result) (takeRegister (place position (completedEntry result e) m))))
 
 -- "(0 without a destination)"
 abbrev pub registered : ℕ → ℕ → Machine → Machine

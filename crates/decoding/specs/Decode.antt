@@ -1,6 +1,6 @@
 -- Decode.
 use Prim.Native.Nat.{ℕ, suc}
-use mathlib.Core.Bool.{Bool, false}
+use mathlib.Core.Bool.{false}
 use mathlib.Core.List.{List, [], _∷_}
 use lib.Dec.{leb, eqb}
 use Rattle.isa.specs.Reads.{choose}
@@ -16,7 +16,6 @@ use Rattle.tables.specs.declared.Operand.{Operand}
 use Rattle.tables.specs.declared.Operand.the-variants.{Zero}
 use Rattle.tables.specs.declared.State.the-variants.{Waits, Completed}
 use Rattle.tables.specs.declared.Entry.{Entry}
-use Rattle.machine.specs.Machine.{zeroMachine}
 use Rattle.machine.specs.Setters.{withCount, withFreeNames, withFetch}
 use Rattle.machine.specs.Changes.{place, mapTo}
 use Rattle.machine.specs.Call.{halted, lentRefusal, inTurn, answered}
@@ -80,27 +79,6 @@ abbrev pub startedEntry : Machine → Instruction → ℕ → Entry
 startedEntry m i guess =
     waitingFor i (m .fetch) (predictedNext i (m .fetch) guess) (operandOn m (firstSource i)) (operandOn m (secondSource i)) (nameFor m (destination i))
     (lookUp (m .mapname) (destination i))
-
--- what decode looks at, in a machine of zeros
-abbrev pub seen : List ℕ → List ℕ → List Bool → ℕ → ℕ → Machine
-seen mapname mapregister mapvalid namehead fetch =
-    record {
-      setup = zeroMachine .setup;
-      count = 0;
-      entries = [];
-      mapname = mapname;
-      mapregister = mapregister;
-      mapvalid = mapvalid;
-      physical = [];
-      values = [];
-      registerhead = 0;
-      registerlink = [];
-      namehead = namehead;
-      namelink = [];
-      fetch = fetch;
-      next = 0;
-      halt = stop 0;
-    }
 
 -- the entry that decode enters
 abbrev pub entryFor : Machine → FetchNumbers → ℕ → Entry

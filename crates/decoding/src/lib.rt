@@ -9,6 +9,7 @@ ghost use Rattle.isa.specs.Reads.{choose};
 ghost use Rattle.reference.specs.Step.{when, first};
 ghost use Rattle.reference.specs.Fetch.{fetchAt, fetchNumbers};
 ghost use Rattle.decoding.specs.Decode as Decode;
+ghost use Rattle.decoding.specs.Seen.{seen};
 use execution::Stop;
 use execution::roles;
 use isa::Instruction;
@@ -119,7 +120,7 @@ fn started<'a>(
     guess: u32,
 ) -> Entry
     requires { ⌜ (i .operation < 40) × (length (now mapname) ≡ 32) × (length (now mapregister) ≡ 32) × (length (now mapvalid) ≡ 32) ⌝ }
-    ensures { λ r. ⌜ r ≡ Decode.startedEntry (Decode.seen (now (mapname .entry)) (now (mapregister .entry)) (now (mapvalid .entry)) head address) i guess ⌝ }
+    ensures { λ r. ⌜ r ≡ Decode.startedEntry (seen (now (mapname .entry)) (now (mapregister .entry)) (now (mapvalid .entry)) head address) i guess ⌝ }
 {
     let one = reference::first_source(i);
     let one_name = maps::mapped(mapname, one);
@@ -153,7 +154,7 @@ pub fn entry_for<'a>(
     guess: u32,
 ) -> Entry
     requires { ⌜ (length (now mapname) ≡ 32) × (length (now mapregister) ≡ 32) × (length (now mapvalid) ≡ 32) ⌝ }
-    ensures { λ r. ⌜ r ≡ Decode.entryFor (Decode.seen (now (mapname .entry)) (now (mapregister .entry)) (now (mapvalid .entry)) head address) (fetchAt (now (program .entry)) address) guess ⌝ }
+    ensures { λ r. ⌜ r ≡ Decode.entryFor (seen (now (mapname .entry)) (now (mapregister .entry)) (now (mapvalid .entry)) head address) (fetchAt (now (program .entry)) address) guess ⌝ }
 {
     let fetched = reference::fetch(program, address);
     let cause = cause_of(fetched);

@@ -6,7 +6,7 @@ use lib.Dec.{eqb}
 use lib.ListN.{getD, set}
 use Rattle.isa.specs.Reads.{choose}
 use Rattle.tables.specs.Table.{lookUp, storeUnder}
-use Rattle.tables.specs.FreeList.{freedHead, freedLink}
+use Rattle.tables.specs.FreeList.{takenHead, takenLink, freedHead, freedLink}
 use Rattle.tables.specs.Entry.{emptyEntry}
 use Rattle.tables.specs.declared.Entry.{Entry}
 use Rattle.machine.specs.declared.Machine.{Machine}
@@ -27,6 +27,10 @@ changeFirst (suc n) f (e ∷ elements) = f e ∷ changeFirst n f elements
 -- all entries change alike
 abbrev pub changeAll : (Entry → Entry) → Machine → Machine
 changeAll f m = withEntries (changeFirst (m .count) f (m .entries)) m
+
+-- the head of the pool of registers is taken; an empty pool stays
+abbrev pub takeRegister : Machine → Machine
+takeRegister m = withFreeRegisters (takenHead (m .registerlink) (m .registerhead)) (takenLink (m .registerlink) (m .registerhead)) m
 
 -- a register is freed
 abbrev pub freeRegister : ℕ → Machine → Machine

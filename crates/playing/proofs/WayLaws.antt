@@ -26,7 +26,8 @@ use Rattle.machine.specs.Setters.{withCount, withEntries, withMap, withPhysical
 use Rattle.machine.specs.declared.Machine.{Machine}
 use Rattle.machine.specs.declared.Answer.{Answer}
 use Rattle.machine.proofs.RefusalLaws.{answered-next}
-use Rattle.decoding.specs.Decode.{seen, entryFor, enter, decoded, decodeRefusal, decodeWithin}
+use Rattle.decoding.specs.Decode.{entryFor, enter, decoded, decodeRefusal, decodeWithin}
+use Rattle.decoding.specs.Seen.{seen}
 use Rattle.decoding.proofs.DecodeLaws.{renamed-is, entered}
 use Rattle.issuing.specs.Issue.{issueRefusal, issued, issueWithin}
 use Rattle.issuing.proofs.IssueLaws.{no-load}

@@ -4,7 +4,8 @@ use Rattle.reference.specs.Fetch.{FetchNumbers, fetchNumbers, fetchAt}
 use Rattle.reference.proofs.FetchLaws.{found-small, unfound-cause}
 use Rattle.isa.specs.Reads.{none}
 use Rattle.machine.specs.declared.Machine.{Machine}
-use Rattle.decoding.specs.Decode.{seen, endedEntry}
+use Rattle.decoding.specs.Decode.{endedEntry}
+use Rattle.decoding.specs.Seen.{seen}
 use Rattle.decoding.proofs.DecodeLaws.{entry-none, entry-at-once, entry-waits}
 use borrow.Author.Needs.{needs}
 use Rattle.decoding.proofs.entry_for.Statement.{statement}
