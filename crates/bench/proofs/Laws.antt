@@ -1,7 +1,8 @@
 -- A replay that is not refused counts every event and agrees with the in-order run.
 use Prim.Native.Nat.{ℕ}
-use mathlib.Core.Path.{_≡_, sym, subst}
+use mathlib.Core.Path.{_≡_, refl, sym, subst}
 use mathlib.Core.List.{List}
+use native.Mathlib.Omega.{arith}
 use Rattle.reference.specs.Run.{runOf}
 use Rattle.agreement.specs.Lists.{World, acceptedCommits, origin}
 use Rattle.agreement.specs.Statement.{Agrees}
@@ -27,6 +28,20 @@ agrees program memory schedule none =
     subst (λ (w : World). Agrees program w commits (runOf commits program (origin memory))) (sym (event-laws .world program (eventsOf schedule) begun))
     (demand (windowIn schedule) (registersIn schedule) program memory accepted calls)
 
+committed : (program memory schedule : List ℕ) → replayRefusal program memory schedule 156 ≡ 0
+    → let commits : ℕ = acceptedCommits program (callsOf (eventsOf schedule)) (playedFrom program memory schedule .world) in
+    playedOf program memory schedule .counts .committed ≡ runOf commits program (origin memory) .steps
+unfolding playedOf
+committed program memory schedule none =
+    let counts = event-laws .commits program (eventsOf schedule) (playedFrom program memory schedule .world) refl in
+    let run = agrees program memory schedule none .steps in
+    omega arith
+
 pub statement : Statement
 unfolding playedOf
-statement = record { counted = λ program memory schedule none. event-laws .counted program (eventsOf schedule) (playedFrom program memory schedule .world); agrees = agrees }
+statement =
+    record {
+      counted = λ program memory schedule none. event-laws .counted program (eventsOf schedule) (playedFrom program memory schedule .world);
+      agrees = agrees;
+      committed = committed;
+    }

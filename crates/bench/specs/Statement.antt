@@ -20,3 +20,7 @@ pub record Statement : Type 0 where
   pub agrees : (program memory schedule : List ℕ) → replayRefusal program memory schedule 156 ≡ 0
       → let commits : ℕ = acceptedCommits program (callsOf (eventsOf schedule)) (playedFrom program memory schedule .world) in
       Agrees program (playedOf program memory schedule .world) commits (runOf commits program (origin memory))
+  -- "Committed counts commits without a halt": as many as that run makes steps
+  pub committed : (program memory schedule : List ℕ) → replayRefusal program memory schedule 156 ≡ 0
+      → let commits : ℕ = acceptedCommits program (callsOf (eventsOf schedule)) (playedFrom program memory schedule .world) in
+      playedOf program memory schedule .counts .committed ≡ runOf commits program (origin memory) .steps

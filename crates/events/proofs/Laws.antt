@@ -4,6 +4,7 @@ use mathlib.Core.Path.{_≡_, refl}
 use mathlib.Core.Bool.{Bool, true, false, _&&_}
 use mathlib.Core.List.{List, [], _∷_}
 use native.Mathlib.Omega.{arith}
+use borrow.Author.Tests.{eq-eqb}
 use lib.Dec.{eqb}
 use lib.ListN.{length}
 use Rattle.isa.specs.Reads.{choose}
@@ -12,7 +13,8 @@ use Rattle.machine.specs.declared.Machine.{Machine}
 use Rattle.agreement.specs.Lists.{Call, own, Made, make, makeAll, isCommit}
 use Rattle.events.specs.declared.Counts.{Counts}
 use Rattle.events.specs.Counts.{callBy, accepting, refusing, Played, played, playedAll}
-use Rattle.events.specs.Statement.{callsOf, countedFrom, Statement}
+use Rattle.events.specs.Statement.{callsOf, haltingCommit, countedFrom, Statement}
+use Rattle.events.proofs.CommitLaws.{all-commits}
 
 pub one-most : (b : Bool) → choose b 1 0 ≤ 1
 one-most true = omega arith
@@ -68,5 +70,9 @@ statement =
     record {
       counted = λ program events w. let all = all-counted program events (countedFrom w) in omega arith;
       committed = λ program events w. all-committed program events (countedFrom w) (omega arith);
+      commits = λ program events w runs.
+          let all = all-commits program events (countedFrom w) in
+          let start : haltingCommit (w .machine) ≡ 0 = rw (eq-eqb (w .machine .halt .cause) 0 runs) in
+          omega arith;
       world = λ program events w. all-world program events (countedFrom w);
     }

@@ -1,3 +1,4 @@
 -- Laws of the events.
 pub mod EventLaws
+pub mod CommitLaws
 pub mod Laws
