@@ -22,14 +22,14 @@ def write(path, text):
         file.write(text)
 
 
-def copied(folder, programs):
+def copied(folder, programs, first="differ "):
     """A copy of the crates in which the outputs of these programs end before the first count of differences, so that
     `rt try` shows what they wrote from there on."""
     shutil.copy(os.path.join(ROOT, "crates.txt"), folder)
     shutil.copytree(os.path.join(ROOT, "crates"), os.path.join(folder, "crates"))
     for program in programs:
         path = os.path.join(folder, "crates", program, "stdout")
-        write(path, read(path).split("differ ")[0] + "?")
+        write(path, read(path).split(first)[0] + "?")
 
 
 def edited(folder, edits):
@@ -62,10 +62,10 @@ def run(folder, *words):
     return done.stdout + done.stderr
 
 
-def differences(folder, program):
-    """The numbers after `differ` in what the program writes, compiled and without a proof."""
+def differences(folder, program, words="differ"):
+    """The numbers after `differ`, or other words, in what the program writes, compiled and without a proof."""
     said = run(folder, "rt", "try", program)
     found = re.search(r'-O3 ended.*\n.*found "(.*)"', said)
     if not found:
         raise SystemExit("%s did not end:\n%s" % (program, said))
-    return [int(number) for number in re.findall(r"differ (\d+)", found[1])]
+    return [int(number) for number in re.findall(r"(?:%s) (\d+)" % words, found[1])]
