@@ -12,6 +12,7 @@ use Rattle.reference.specs.Step.{when, first}
 use Rattle.formats.specs.Schedule.{recordAt, records, firstIndex}
 use Rattle.formats.specs.Chain.{recordRefusal, isMet, chainRefusal, eventsFrom}
 use Rattle.formats.specs.declared.Record.{Record}
+use Rattle.formats.proofs.Events.{events-none, events-ended, events-on}
 use Rattle.machine.specs.Range.{machineInRange}
 use Rattle.machine.specs.Call.{lentRefusal}
 use Rattle.machine.specs.declared.Machine.{Machine}
@@ -52,19 +53,19 @@ module _ (n : ℕ) (schedule met : List ℕ) (index : ℕ) (some : index ≡ 0 �
       both-none (chainRefusal n schedule (index ∷ met) (r .next)) [] (both-none (recordRefusal r) (chainRefusal n schedule (index ∷ met) (r .next) ∷ []) rest .1) .0
 
 -- the events, one after the other
-events-none : (program schedule : List ℕ) (index : ℕ) (p : Played) → playedAll program (eventsFrom 0 schedule index) p ≡ p
-unfolding playedAll eventsFrom
-events-none program schedule index p = refl
+playing-none : (program schedule : List ℕ) (index : ℕ) (p : Played) → playedAll program (eventsFrom 0 schedule index) p ≡ p
+unfolding playedAll
+playing-none program schedule index p = ap (λ (events : List Record). playedAll program events p) (events-none schedule index)
 
-events-ended : (program schedule : List ℕ) (n : ℕ) (p : Played) → playedAll program (eventsFrom n schedule 0) p ≡ p
-unfolding playedAll eventsFrom
-events-ended program schedule zero p = refl
-events-ended program schedule (suc n) p = refl
+playing-ended : (program schedule : List ℕ) (n : ℕ) (p : Played) → playedAll program (eventsFrom n schedule 0) p ≡ p
+unfolding playedAll
+playing-ended program schedule zero p = playing-none program schedule 0 p
+playing-ended program schedule (suc n) p = ap (λ (events : List Record). playedAll program events p) (events-ended n schedule 0 refl)
 
-events-more : (program schedule : List ℕ) (n index : ℕ) (p : Played) → (index ≡ 0 → ⊥)
+playing-more : (program schedule : List ℕ) (n index : ℕ) (p : Played) → (index ≡ 0 → ⊥)
     → playedAll program (eventsFrom (suc n) schedule index) p ≡ playedAll program (eventsFrom n schedule (recordAt schedule index .next)) (played program (recordAt schedule index) p)
-unfolding playedAll eventsFrom
-events-more program schedule n index p some = rw (ne-eqb index 0 some)
+unfolding playedAll
+playing-more program schedule n index p some = ap (λ (events : List Record). playedAll program events p) (events-on n schedule index some)
 
 -- what one event adds to each count
 drops-most : (call : Call) (before after : Machine) → drops call before after ≤ before .count
@@ -132,10 +133,10 @@ module _ {program memory schedule : List ℕ} {left index : ℕ} {m : Machine} {
   w = record { machine = m; memory = bytes }
 
   pub ends : left ≡ 0 → here ≡ playedOf program memory schedule
-  ends z = sym (ap (λ (n : ℕ). playedAll program (eventsFrom n schedule index) here) z ∙ events-none program schedule index here) ∙ g .rest
+  ends z = sym (ap (λ (n : ℕ). playedAll program (eventsFrom n schedule index) here) z ∙ playing-none program schedule index here) ∙ g .rest
 
   pub chain-ends : index ≡ 0 → here ≡ playedOf program memory schedule
-  chain-ends z = sym (ap (λ (i : ℕ). playedAll program (eventsFrom left schedule i) here) z ∙ events-ended program schedule left here) ∙ g .rest
+  chain-ends z = sym (ap (λ (i : ℕ). playedAll program (eventsFrom left schedule i) here) z ∙ playing-ended program schedule left here) ∙ g .rest
 
   -- 5 and 6 do not apply
   pub is-lent : lentRefusal m program bytes ≡ 0
@@ -189,7 +190,7 @@ module _ {program memory schedule : List ℕ} {left index : ℕ} {m : Machine} {
         record {
           rest = ap (playedAll program (eventsFrom (left - 1) schedule (r .next))) e
               ∙ ap (λ (x : Record). playedAll program (eventsFrom (left - 1) schedule (x .next)) (played program x here)) at
-              ∙ sym (ap (λ (n : ℕ). playedAll program (eventsFrom n schedule index) here) more ∙ events-more program schedule (left - 1) index here some)
+              ∙ sym (ap (λ (n : ℕ). playedAll program (eventsFrom n schedule index) here) more ∙ playing-more program schedule (left - 1) index here some)
               ∙ g .rest;
           commits = _;
           reached = subst (Reached program (origin memory) _) (sym same) (make-reached program (origin memory) (g .commits) (own (callBy r)) w (g .reached));
