@@ -2,11 +2,11 @@
 use Prim.Native.Nat.{ℕ, zero, suc, _+_, _-_, _≤_, _<_}
 use mathlib.Core.Path.{_≡_, refl, sym, ap, _∙_}
 use mathlib.Core.Bool.{true, false, not}
-use mathlib.Core.List.{List, [], _∷_, _++_, map}
+use mathlib.Core.List.{List, [], _∷_, _++_}
 use native.Mathlib.Omega.{arith}
 use native.Mathlib.Numerals.{add-one}
 use borrow.Author.Tests.{eq-eqb, ne-eqb, leb-false}
-use lib.ListN.{length, getD, set, take, drop, length-map}
+use lib.ListN.{length, getD, set, take, drop}
 use Rattle.execution.specs.Memory.{stored}
 use Rattle.reference.specs.Step.{when, first}
 use Rattle.execution.specs.declared.Stop.{Stop}
@@ -20,10 +20,6 @@ use Rattle.machine.specs.Changes.{entryAt}
 use Rattle.machine.specs.Setters.{withCount, withEntries, withPhysical, withFreeRegisters, withFreeNames, withNext, withHalt}
 use Rattle.committing.specs.Commit.{commitRefusal, haltedBy, moveDown, retired, stoppedWith, commitBy, commitWithin, commitOf}
 use Rattle.machine.proofs.RefusalLaws.{passed, own-next}
-
--- the length of an array of structs: what is known of it stands at what its elements are made of
-pub length-mapped : {A B : Type 0} (f : A → B) (elements : List A) (n : ℕ) → length (map f elements) ≡ n → length elements ≡ n
-length-mapped f elements n e = sym (length-map elements f) ∙ e
 
 -- the first n elements are those that stood one place up
 unfoldable pub shifted : {A : Type 0} → ℕ → List A → List A

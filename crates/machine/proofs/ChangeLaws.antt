@@ -1,15 +1,20 @@
--- A loop over the entries that changes them alike.
+-- Loops over the entries.
 use Prim.Native.Nat.{ℕ, zero, suc, _+_}
 use mathlib.Core.Path.{_≡_, refl, sym, ap, _∙_}
-use mathlib.Core.List.{List, [], _∷_}
+use mathlib.Core.List.{List, [], _∷_, map}
 use native.Mathlib.Numerals.{add-one}
-use lib.ListN.{length, getD, set}
+use lib.ListN.{length, getD, set, length-map}
 use Rattle.tables.specs.Entry.{emptyEntry}
 use Rattle.tables.specs.declared.Entry.{Entry}
 use Rattle.machine.specs.declared.Machine.{Machine}
 use Rattle.machine.specs.Setters.{withEntries}
 use Rattle.machine.specs.Changes.{changeFirst}
 
+-- the length of an array of structs: what is known of it stands at what its elements are made of
+pub length-mapped : {A B : Type 0} (f : A → B) (elements : List A) (n : ℕ) → length (map f elements) ≡ n → length elements ≡ n
+length-mapped f elements n e = sym (length-map elements f) ∙ e
+
+-- entries that change alike, one after the other
 pub change-none : {A : Type 0} (f : A → A) (elements : List A) → elements ≡ changeFirst 0 f elements
 unfolding changeFirst
 change-none f elements = refl

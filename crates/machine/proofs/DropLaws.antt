@@ -1,14 +1,16 @@
 -- A drop, put together from what the tables' functions leave.
 use Prim.Native.Nat.{ℕ, suc, _-_, _≤_, _<_}
-use mathlib.Core.Path.{_≡_, refl, sym, ap, _∙_}
+use mathlib.Core.Path.{_≡_, refl, sym, ap, subst, _∙_}
 use mathlib.Core.Bool.{Bool, not}
 use mathlib.Core.List.{List}
 use native.Mathlib.Omega.{arith}
 use lib.Dec.{eqb}
+use lib.ListN.{length, length-set}
 use Rattle.tables.specs.Table.{lookUp, storeUnder}
 use Rattle.tables.specs.FreeList.{freedHead, freedLink}
 use Rattle.tables.specs.Entry.{emptyEntry, held}
 use Rattle.tables.specs.declared.Entry.{Entry}
+use Rattle.tables.proofs.TableLaws.{store-length}
 use Rattle.machine.specs.declared.Machine.{Machine}
 use Rattle.machine.specs.Setters.{withCount, withMap, withPhysical, withFreeRegisters, withFreeNames}
 use Rattle.machine.specs.Changes.{entryAt, place}
@@ -42,6 +44,29 @@ pub drop-count : (m : Machine) → dropYoungest m .count ≡ m .count - 1
 unfolding dropYoungest
 drop-count m = refl
 
+-- the lengths of the tables that a drop changes
+pub record Long (m : Machine) : Type 0 where
+  pub entries : length (m .entries) ≡ 64
+  pub mapname : length (m .mapname) ≡ 32
+  pub mapregister : length (m .mapregister) ≡ 32
+  pub mapvalid : length (m .mapvalid) ≡ 32
+  pub physical : length (m .physical) ≡ 96
+  pub registerlink : length (m .registerlink) ≡ 96
+  pub namelink : length (m .namelink) ≡ 96
+
+long-drop : (m : Machine) → Long m → Long (dropYoungest m)
+unfolding dropYoungest
+long-drop m l =
+    record {
+      entries = length-set (m .entries) (m .count - 1) emptyEntry ∙ l .entries;
+      mapname = store-length _ _ _ ∙ l .mapname;
+      mapregister = store-length _ _ _ ∙ l .mapregister;
+      mapvalid = store-length _ _ _ ∙ l .mapvalid;
+      physical = store-length _ _ _ ∙ l .physical;
+      registerlink = store-length _ _ _ ∙ l .registerlink;
+      namelink = store-length _ _ _ ∙ l .namelink;
+    }
+
 -- dropping goes on, or is done
 pub drop-more : (kept : ℕ) (m : Machine) → kept < m .count → dropTo kept (dropYoungest m) ≡ dropTo kept m
 unfolding dropMany
@@ -52,3 +77,10 @@ drop-more kept m h =
 pub drop-done : (kept : ℕ) (m : Machine) → m .count ≤ kept → dropTo kept m ≡ m
 unfolding dropMany
 drop-done kept m h = let n : m .count - kept ≡ 0 = omega arith in ap (λ (k : ℕ). dropMany k m) n
+
+-- one turn of the loop that drops
+pub drop-turn : (kept : ℕ) (m k : Machine) → k ≡ dropYoungest m → m .count ≤ 64 → kept < m .count → Long m → (start : Machine) → dropTo kept m ≡ dropTo kept start
+    → (k .count ≤ 64) × Long k × (dropTo kept k ≡ dropTo kept start)
+drop-turn kept m k e few some long start same =
+    let n : k .count ≡ m .count - 1 = ap (λ (x : Machine). x .count) e ∙ drop-count m in
+    (omega arith, subst Long (sym e) (long-drop m long), ap (dropTo kept) e ∙ drop-more kept m some ∙ same)

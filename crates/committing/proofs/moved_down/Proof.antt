@@ -6,7 +6,8 @@ use native.Mathlib.Omega.{arith}
 use lib.ListN.{length}
 use Rattle.tables.specs.declared.Entry.{Entry}
 use Rattle.machine.specs.Setters.{withEntries}
-use Rattle.committing.proofs.CommitLaws.{length-mapped, shifted, shifted-none, shift-turn, shift-done}
+use Rattle.committing.proofs.CommitLaws.{shifted, shifted-none, shift-turn, shift-done}
+use Rattle.machine.proofs.ChangeLaws.{length-mapped}
 use Rattle.committing.proofs.moved_down.Statement.{statement}
 use Rattle.committing.proofs.moved_down.Tie as tie
 
