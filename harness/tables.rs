@@ -1,5 +1,5 @@
 //! The times of the tables beside the same in plain Rust, in place.
-use crate::figures::{at_four_places, Best, Difference, Table};
+use crate::figures::{at_four_places, Best, Table};
 use crate::plain_tables as plain;
 use crate::timing;
 
@@ -86,15 +86,6 @@ fn print(ours: &Times, theirs: &Times) {
     row("take and free of a register", ours.take.0, theirs.take.0);
     row("wake over 64 entries", ours.wake.0, theirs.wake.0);
     row("drop of an entry", ours.entry(), theirs.entry());
-    // the compiled loop copies the machine twice for an entry
-    let without = Difference::of(ours.entry(), 2.0 * ours.copy());
-    let plain = theirs.entry();
-    table.line([
-        "drop without its two copies",
-        &without.text(1.0),
-        &format!("{plain:.2}"),
-        &without.text(plain),
-    ]);
     row("copy of the machine", ours.copy(), theirs.copy());
 }
 
