@@ -47,7 +47,7 @@ fn number(operand: Operand) -> u32 {
     }
 }
 
-fn same_entry(a: Entry, b: Entry) -> bool {
+pub fn same_entry(a: Entry, b: Entry) -> bool {
     let i = a.instruction;
     let j = b.instruction;
     let i_left = a.left;

@@ -9,6 +9,7 @@ use crate::comparing::Ordered;
 use crate::counting;
 use crate::damage;
 use crate::programs;
+use crate::resting;
 use machine::Machine;
 
 struct Run {
@@ -32,7 +33,8 @@ fn judged(
     let lengths = (other >= 2) | (number == 6);
     let agrees = comparing::agrees(after, o) & same_data;
     counting::expect(counts, counting::DIFFERENCES, kept & lengths & agrees);
-    counting::expect(counts, counting::VIOLATIONS, accounting::holds(after));
+    let rests = accounting::holds(after) & resting::rests(after);
+    counting::expect(counts, counting::VIOLATIONS, rests);
 }
 
 // a call with the lengths of set-up, or with others

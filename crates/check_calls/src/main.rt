@@ -1,5 +1,5 @@
 // Machines driven call by call, with lists of calls from a seed: after every call the report, the data, the next address and
-// the halt are those of the in-order run, a refused call has changed nothing, and every register and name is in one place.
+// the halt are those of the in-order run, a refused call has changed nothing, every register and name is in one place, and the machine is as one between calls.
 mod accounting;
 mod calls;
 mod chance;
@@ -8,6 +8,7 @@ mod counting;
 mod damage;
 mod lists;
 mod programs;
+mod resting;
 
 use counting::at;
 

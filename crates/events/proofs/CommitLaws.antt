@@ -12,13 +12,13 @@ use Rattle.tables.specs.Entry.{stoppedEntry, completedEntry, held}
 use Rattle.tables.specs.declared.Entry.{Entry}
 use Rattle.machine.specs.Changes.{entryAt, place}
 use Rattle.machine.specs.declared.Machine.{Machine}
-use Rattle.issuing.specs.Issue.{issued}
 use Rattle.stealing.specs.Steal.{robbed}
 use Rattle.completing.specs.Complete.{outcomeAt, learned}
 use Rattle.committing.specs.Commit.{haltedBy, retired}
 use Rattle.formats.specs.declared.Record.{Record}
 use Rattle.agreement.specs.Lists.{Call, commit, own, World, Made, madeBy, make, isCommit, acceptedCommits}
 use Rattle.agreement.proofs.Turns.{Turn, refused, enters, issues, ends, settles, takes, steals, retires, halts, turn}
+use Rattle.agreement.proofs.Fits.{steady-issued}
 use Rattle.agreement.proofs.Steady.{Steady, steady-both, steady-enter, steady-place, steady-learned, steady-robbed, steady-redirected, steady-retired, halted-halt}
 use Rattle.events.specs.declared.Counts.{Counts}
 use Rattle.events.specs.Counts.{callBy, commits, accepting, refusing, Played, played, playedAll}
@@ -56,10 +56,6 @@ module _ (w : World) (call : Call) where
   counted-halts why m q runs h =
       let after : haltedBy why m .halt .cause ≡ 0 → ⊥ = λ z. h (sym (ap (λ (x : Stop). x .cause) (halted-halt why m)) ∙ z) in
       rw (q, eq-eqb (w .machine .halt .cause) 0 runs, ne-eqb (haltedBy why m .halt .cause) 0 after)
-
-steady-issued : (memory : List ℕ) (i : ℕ) (m : Machine) → Steady m (issued memory i m)
-unfolding issued
-steady-issued memory i m = steady-place i _ m
 
 counted-turn : (program : List ℕ) (w : World) (call : Call) (made : Made) → Turn program w call made → Counted w call (made .world .machine) (made .number)
 counted-turn program w call made (refused n h e) = counted-made w call made _ _ _ e (counted-refused w call n h)
