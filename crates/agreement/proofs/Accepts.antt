@@ -89,7 +89,7 @@ pub data Supplied (m : Machine) (i : ℕ) : Type 0 where
   free : (m .registerhead ≡ 0 → ⊥) → Supplied m i
   younger : (j : ℕ) → i < j → j < m .count → (held (m .physical) (entryAt m j) ≡ 0 → ⊥) → Supplied m i
 
-and-none : (a b : Bool) → b ≡ false → a && b ≡ false
+pub and-none : (a b : Bool) → b ≡ false → a && b ≡ false
 and-none true b e = e
 and-none false b e = refl
 

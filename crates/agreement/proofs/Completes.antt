@@ -1,6 +1,6 @@
 -- Completion on the machine keeps the invariant, in each of its ways.
-use Prim.Native.Nat.{ℕ, zero, suc, _<_}
-use mathlib.Core.Path.{_≡_, refl, sym, ap, subst, _∙_}
+use Prim.Native.Nat.{ℕ, _<_}
+use mathlib.Core.Path.{_≡_, sym, ap, subst, _∙_}
 use mathlib.Core.Logic.{_≢_}
 use mathlib.Core.List.{List, _∷_, map}
 use native.Mathlib.Omega.{arith}
@@ -16,7 +16,7 @@ use Rattle.machine.specs.Changes.{entryAt, place}
 use Rattle.completing.specs.Complete.{outcomeAt, learned, redirected}
 use Rattle.stealing.specs.Steal.{robbed}
 use Rattle.machine.specs.declared.Machine.{Machine}
-use Rattle.agreement.proofs.Core.{Core, coreOf, informEntry, putHead, placed, release, learn, redirect}
+use Rattle.agreement.proofs.Core.{Core, coreOf, informEntry, placed, release, learn, redirect}
 use Rattle.agreement.proofs.Ghost.{Ghost}
 use Rattle.agreement.proofs.Chains.{renamingOf, Renamed, executionOf, Executes}
 use Rattle.agreement.proofs.Pools.{RegisterPool}
@@ -26,7 +26,7 @@ use Rattle.agreement.proofs.RegisterPools.{pool-some, held-outside}
 use Rattle.agreement.proofs.Walks.{namesAt, stateAt, executes-at, agree-at, last-length}
 use Rattle.agreement.proofs.Learn.{learn-accounted}
 use Rattle.agreement.proofs.Complete.{outcomeOf, issued-read, complete-value}
-use Rattle.agreement.proofs.Finish.{released-length, named, stop-keeps, finish-keeps-without, finish-keeps-free, release-keeps, finish-keeps-theft}
+use Rattle.agreement.proofs.Finish.{released-head, released-length, named, stop-keeps, finish-keeps-without, finish-keeps-free, release-keeps, finish-keeps-theft}
 use Rattle.agreement.proofs.Victims.{held-some}
 use Rattle.agreement.proofs.Stores.{look-get}
 use Rattle.agreement.proofs.Kept.{Kept, kept-place, kept-robbed, kept-learned}
@@ -81,15 +81,6 @@ released-entry c i j h d =
     let n : length (map (informEntry (f .name) 0) l) ≡ length (c .entries) = length-map l (informEntry (f .name) 0) ∙ length-set (c .entries) j (waitingEntry f) in
     getD-within (map (informEntry (f .name) 0) l) i emptyEntry (informEntry (f .name) 0 emptyEntry) (omega arith)
     ∙ List·getD-map (informEntry (f .name) 0) l i emptyEntry ∙ ap (informEntry (f .name) 0) (getD-set-other (c .entries) j i (waitingEntry f) emptyEntry d)
-
-put-some : (n head : ℕ) → n ≢ 0 → putHead n head ≢ 0
-unfolding putHead
-put-some zero head z = absurd (z refl)
-put-some (suc n) head z = omega arith
-
-released-head : (c : Core) (j : ℕ) → getD (c .physical) (getD (c .entries) j emptyEntry .name) 0 ≢ 0 → release j c .registerhead ≢ 0
-unfolding release
-released-head c j h = put-some (getD (c .physical) (getD (c .entries) j emptyEntry .name) 0) (c .registerhead) h
 
 module _ (program : List ℕ) (s : State) (m : Machine) (k : Kept m) (invariant : Invariant program s (coreOf m)) (i : ℕ) (h : i < m .count) (now : entryAt m i .state ≡ Issued)
     (sized : length (s .memory) ≡ m .setup .bytes) where

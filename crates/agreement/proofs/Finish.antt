@@ -1,5 +1,5 @@
 -- Completion, in its ways: with a cause, without a destination, with a free register, with the register of a younger entry.
-use Prim.Native.Nat.{ℕ, zero, suc, _<_}
+use Prim.Native.Nat.{ℕ, _<_}
 use mathlib.Core.Path.{_≡_, refl, ap, sym, _∙_}
 use mathlib.Core.Logic.{_≢_}
 use mathlib.Core.List.{List, _∷_, map}
@@ -12,14 +12,14 @@ use Rattle.execution.specs.declared.Outcome.{Outcome}
 use Rattle.tables.specs.Entry.{emptyEntry, waitingEntry, completedEntry, stoppedEntry}
 use Rattle.tables.specs.declared.State.the-variants.{Issued, Completed}
 use Rattle.tables.specs.declared.Entry.{Entry}
-use Rattle.agreement.proofs.Core.{Core, informEntry, putHead, placed, release, learn, redirect}
+use Rattle.agreement.proofs.Core.{Core, informEntry, placed, release, learn, redirect}
 use Rattle.agreement.proofs.Ghost.{Ghost}
 use Rattle.agreement.proofs.Chains.{renamingOf, Renamed, Execution, executionOf, waits, reads, done, stops, Executes}
 use Rattle.agreement.proofs.Contents.{ShownIn, holding, without, stopped, early, HoldsIn}
 use Rattle.agreement.proofs.Pools.{RegisterPool}
 use Rattle.agreement.proofs.Invariant.{Invariant}
 use Rattle.agreement.proofs.Tests.{impossible}
-use Rattle.agreement.proofs.RegisterPools.{pool-some}
+use Rattle.agreement.proofs.RegisterPools.{put-head, pool-some}
 use Rattle.agreement.proofs.Every.{all-at, map-keep}
 use Rattle.agreement.proofs.Walks.{namesAt, stateAt, renamed-at, executes-at, agree-at, executed-set, state-set, last-length}
 use Rattle.agreement.proofs.Placing.{placed-accounted, placed-keeps}
@@ -132,10 +132,10 @@ module _ (p : List ℕ) (s : State) (c : Core) (invariant : Invariant p s c) (i 
             ];
           }
 
-put-some : (n head : ℕ) → n ≢ 0 → putHead n head ≢ 0
-unfolding putHead
-put-some zero head z = absurd (z refl)
-put-some (suc n) head z = omega arith
+-- a released register is the head of the pool
+pub released-head : (c : Core) (j : ℕ) → getD (c .physical) (getD (c .entries) j emptyEntry .name) 0 ≢ 0 → release j c .registerhead ≢ 0
+unfolding release
+released-head c j h z = h (sym (put-head (getD (c .physical) (getD (c .entries) j emptyEntry .name) 0) (c .registerhead) h) ∙ z)
 
 -- an entry that is not released is executed as before
 pub released-other : (c : Core) (i j : ℕ) → i ≢ j → executionOf (getD (release j c .entries) i emptyEntry) ≡ executionOf (getD (c .entries) i emptyEntry)
@@ -173,8 +173,7 @@ module _ (p : List ℕ) (s : State) (c : Core) (invariant : Invariant p s c) (i 
       written (renamed p s c invariant i inside .written ∙ ap (λ (x : Execution). destination (x .instruction)) (sym like) ∙ sym (renamed p s r after i inside-r .written) ∙ q)
 
   head : r .registerhead ≢ 0
-  unfolding release
-  head = put-some (getD (c .physical) (getD (c .entries) j emptyEntry .name) 0) (c .registerhead) has
+  head = released-head c j has
 
   pub finish-keeps-theft : Invariant p s (redirect i (o .next) (learn i (o .result) (release j c)))
   finish-keeps-theft =

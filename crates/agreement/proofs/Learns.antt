@@ -18,6 +18,7 @@ use Rattle.stealing.specs.Steal.{robbed}
 use Rattle.machine.specs.declared.Machine.{Machine}
 use Rattle.agreement.proofs.Core.{Core, coreOf, informEntry, putHead, putLink, reshown, release, learn}
 use Rattle.agreement.proofs.Stores.{wake-entry, sleep-entry, first-changed, map-alike}
+use Rattle.agreement.proofs.RegisterPools.{put-head, put-link}
 use Rattle.agreement.proofs.Kept.{Kept}
 use Rattle.agreement.proofs.Views.{seen-entry}
 
@@ -136,16 +137,6 @@ robbed-entry v i m k h d =
 robbed-named : (v i : ℕ) (m : Machine) → Kept m → i < m .count → (i ≡ v → ⊥) → Named (entryAt m i) → Named (entryAt (robbed v m) i)
 robbed-named v i m k h d n = subst Named (sym (robbed-entry v i m k h d)) (record { destination = n .destination; name = n .name })
 
-put-some : (n head : ℕ) → (n ≡ 0 → ⊥) → putHead n head ≡ n
-unfolding putHead
-put-some zero head h = absurd (h refl)
-put-some (suc n) head h = refl
-
-put-link : (n head : ℕ) (link : List ℕ) → (n ≡ 0 → ⊥) → putLink n head link ≡ set link n head
-unfolding putLink
-put-link zero head link h = absurd (h refl)
-put-link (suc n) head link h = refl
-
 -- a theft
 module _ (v i result : ℕ) (m : Machine) (k : Kept m) (there : i < m .count) (victim : v < m .count) (other : i ≡ v → ⊥) (named : Named (entryAt m i)) (robs : Named (entryAt m v)) where
   abbrev register : ℕ
@@ -161,7 +152,7 @@ module _ (v i result : ℕ) (m : Machine) (k : Kept m) (there : i < m .count) (v
         let q : getD (take (m .count) (m .entries)) v emptyEntry ≡ entryAt m v = seen-entry m v victim in
         let held-there : register ≡ getD (m .physical) (getD (take (m .count) (m .entries)) v emptyEntry .name) 0 = holds ∙ ap (λ (e : Entry). getD (m .physical) (e .name) 0) (sym q) in
         λ j. pooled
-        ((sym (put-some register (m .registerhead) some) ∙ ap (λ (x : ℕ). putHead x (m .registerhead)) held-there) j)
+        ((sym (put-head register (m .registerhead) some) ∙ ap (λ (x : ℕ). putHead x (m .registerhead)) held-there) j)
         ((sym kept-link ∙ ap (set (m .registerlink) register) (sym empty) ∙ sym (put-link register (m .registerhead) (m .registerlink) some) ∙ ap (λ (x : ℕ). putLink x (m .registerhead) (m .registerlink)) held-there) j)
         (release v (coreOf m))
 

@@ -85,6 +85,17 @@ register-free last physical head link xs j (suc q) pool h e =
       outside = outside-free link (suc q) head xs (pool .outside);
     }
 
+-- freeing a number that is not 0
+pub put-head : (n head : ℕ) → (n ≡ 0 → ⊥) → putHead n head ≡ n
+unfolding putHead
+put-head zero head h = absurd (h refl)
+put-head (suc n) head h = refl
+
+pub put-link : (n head : ℕ) (link : List ℕ) → (n ≡ 0 → ⊥) → putLink n head link ≡ set link n head
+unfolding putLink
+put-link zero head link h = absurd (h refl)
+put-link (suc n) head link h = refl
+
 -- a pool with a head has an element
 pub pool-some : (last : ℕ) (physical : List ℕ) (head : ℕ) (link free : List ℕ) → RegisterPool last physical head link free → head ≢ 0
     → (x : ℕ) × (xs : List ℕ) × RegisterPool last physical head link (x ∷ xs)

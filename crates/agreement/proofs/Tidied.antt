@@ -17,22 +17,19 @@ use Rattle.agreement.proofs.Invariant.{Accounting}
 use Rattle.agreement.proofs.Every.{all-at}
 use Rattle.agreement.proofs.Walks.{namesAt, renamed-at, renamed-take, zero-last}
 use Rattle.agreement.proofs.Entering.{zero-named}
-use Rattle.agreement.proofs.Stores.{look-get}
+use Rattle.agreement.proofs.Victims.{held-completed}
 use Rattle.agreement.proofs.Tidy.{Plain, Tidy}
 
 -- what an entry holds stands under its name
-held-completed : (s : Stage) (physical : List ℕ) (name : ℕ) → s ≡ Completed → getD physical 0 0 ≡ 0 → heldIn s (lookUp physical name) ≡ getD physical name 0
-held-completed s physical name e z = ap (λ (x : Stage). heldIn x (lookUp physical name)) e ∙ look-get physical name z
-
 held-early : (s : Stage) (physical : List ℕ) (name : ℕ) → s ≢ Completed → getD physical name 0 ≡ 0 → heldIn s (lookUp physical name) ≡ getD physical name 0
 held-early Waits physical name e h = sym h
 held-early Issued physical name e h = sym h
 held-early Completed physical name e h = absurd (e refl)
 
 pub held-is : (physical : List ℕ) (e : Entry) → getD physical 0 0 ≡ 0 → HoldsIn physical e → held physical e ≡ getD physical (e .name) 0
-held-is physical e z (holding a b c d) = held-completed (e .state) physical (e .name) a z
-held-is physical e z (without a b c) = held-completed (e .state) physical (e .name) a z
-held-is physical e z (stopped a b c) = held-completed (e .state) physical (e .name) a z
+held-is physical e z (holding a b c d) = held-completed physical e z a
+held-is physical e z (without a b c) = held-completed physical e z a
+held-is physical e z (stopped a b c) = held-completed physical e z a
 held-is physical e z (early a b) = held-early (e .state) physical (e .name) a b
 
 module _ (g : Ghost) (m : List ℕ) (c : Core) (accounting : Accounting g m c) where

@@ -37,6 +37,7 @@ use Rattle.machine.proofs.ChangeLaws.{change-none}
 use Rattle.committing.specs.Commit.{commitRefusal, moveDown, retired, commitWithin}
 use Rattle.committing.proofs.CommitLaws.{shifted, shifted-none, shift-done, not-refused, retired-is, commit-retires}
 use Rattle.agreement.specs.Lists.{commit}
+use Rattle.agreement.proofs.Accepts.{and-none}
 use Rattle.agreement.proofs.Learns.{changed-at}
 use Rattle.events.specs.declared.Counts.{Counts}
 use Rattle.events.specs.Counts.{callBy, Played, played}
@@ -66,10 +67,6 @@ entered-here m e mapname mapregister namelink mapvalid following namehead a b c 
 decode-accepts : (r : Record) (m : Machine) → Decodes r (m .halt) (m .setup .window) (m .count) → decodeRefusal m ≡ 0
 unfolding decodeRefusal first
 decode-accepts r m d = rw (eq-eqb (m .halt .cause) 0 (d .runs), lt-leb (m .setup .window) (m .count) (d .room))
-
-and-false : (b : Bool) → b && false ≡ false
-and-false true = refl
-and-false false = refl
 
 -- a completion without a cause whose prediction was right
 smooth-is : (position : ℕ) (o : Outcome) (m k : Machine) (e : Entry) → o ≡ outcomeAt m position → Smooth o e → entryAt k position .predicted ≡ e .predicted → k ≡ registered position (o .result) m → k ≡ completed position m
@@ -170,7 +167,7 @@ module _ {program start schedule : List ℕ} {left index : ℕ} {m : Machine} {m
   learn-way there i added o is s some free done shown following mapregister physical values registerlink mapvalid a b c d f x h j k e =
       let position : ℕ = r .position in
       let taught = e ∙ learned-is m position (m .registerhead) (o .result) done shown following mapregister physical values registerlink mapvalid a b c d f x h j in
-      complete-way there i (ap (λ (x : Bool). needsRegister m position && x) (ne-eqb (m .registerhead) 0 free) ∙ and-false (needsRegister m position)) added o is s k
+      complete-way there i (and-none (needsRegister m position) (noneFree m) (ne-eqb (m .registerhead) 0 free)) added o is s k
       (ap (λ (x : Machine). entryAt x position .predicted) taught ∙ learned-predicted position (m .registerhead) (o .result) m there (omega (arith, roomy g)))
       (taught ∙ free-register position (o .result) m some free)
 
