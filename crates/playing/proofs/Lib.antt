@@ -1,3 +1,1 @@
--- Laws of the loop and its ways.
-pub mod PlayLaws
-pub mod WayLaws
+-- The loop has no laws of its own.

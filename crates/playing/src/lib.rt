@@ -1,23 +1,45 @@
 // All the events of a schedule.
-mod ways;
-
 ghost use mathlib.Core.Path.{_≡_};
 ghost use Rattle.events.specs.Numbers as Numbers;
 ghost use Rattle.events.specs.Play as Play;
 use events::Counts;
 use events::Played;
 use events::counting;
-use events::making;
+use execution::roles;
 use machine::Machine;
-use tables::entries;
+use tables::entries as entry;
 use tables::free_list;
 use tables::maps;
+use turns::Ending;
+use turns::Way;
+use turns::changes;
+use turns::changes::Heads;
+use turns::ways;
 
-// Makes every event of a schedule on the machine of its set-up, and counts them.
-pub fn play(mut machine: Machine, program: &[u8], data: &mut [u8], schedule: &[u8]) -> Played
+// Makes every event of a schedule on the machine of its set-up, and counts them. Every case is made in place: the machine
+// stands in locals, whose tables are lent to `changes`; the loops over the entries stand here, since an array of structs
+// cannot be lent. Each arm ends the turn; a drop takes a turn for each entry.
+pub fn play(machine: Machine, program: &[u8], data: &mut [u8], schedule: &[u8]) -> Played
     requires { ⌜ Play.Ready machine (now program) (now «data») (now schedule) ⌝ }
     ensures { λ r. ⌜ Numbers.playedBy r (now («data» .exit)) ≡ Play.playedOf (now (program .entry)) (now («data» .entry)) (now (schedule .entry)) ⌝ }
 {
+    let setup = machine.setup;
+    let mut entries = machine.entries;
+    let mut mapname = machine.mapname;
+    let mut mapregister = machine.mapregister;
+    let mut mapvalid = machine.mapvalid;
+    let mut physical = machine.physical;
+    let mut values = machine.values;
+    let mut registerlink = machine.registerlink;
+    let mut namelink = machine.namelink;
+    let mut registerhead = machine.registerhead;
+    let mut namehead = machine.namehead;
+    let mut count = machine.count as usize;
+    let mut fetch = machine.fetch;
+    let mut next = machine.next;
+    let mut halt = machine.halt;
+    // so many entries stay: the youngest beyond them are dropped before the next event
+    let mut kept = count;
     let mut counts = Counts {
         accepted: 0,
         refused: 0,
@@ -27,135 +49,259 @@ pub fn play(mut machine: Machine, program: &[u8], data: &mut [u8], schedule: &[u
     };
     let mut index = formats::first_index(schedule) as usize;
     let mut left = schedule.len() / 8;
-    while left != 0 {
+    'turns: loop {
+        // the drop of one entry
+        if kept < count {
+            count -= 1;
+            let x = entries[count];
+            let empty = entry::empty();
+            entries[count] = empty;
+            let heads = Heads {
+                register: registerhead,
+                name: namehead,
+            };
+            let freed = changes::restore(
+                &mut mapname,
+                &mut mapregister,
+                &mut mapvalid,
+                &mut physical,
+                &mut registerlink,
+                &mut namelink,
+                heads,
+                x,
+            );
+            registerhead = freed.register;
+            namehead = freed.name;
+            continue 'turns;
+        }
+        if left == 0 {
+            break 'turns;
+        }
         if index == 0 {
-            break;
+            break 'turns;
         }
         let r = formats::record_at(schedule, index);
         index = r.next as usize;
         left -= 1;
-        let halt = machine.halt;
-        let s = machine.setup;
-        let count = machine.count as usize;
-        // decode in place, since only one entry and the general map change
-        if ways::decodes(r, halt, s.window, machine.count) {
-            let e = decoding::entry_for(
-                &machine.mapname,
-                &machine.mapregister,
-                &machine.mapvalid,
-                machine.namehead,
-                machine.fetch,
-                program,
-                r.guess,
-            );
-            maps::map_to(&mut machine.mapname, e.destination, e.name);
-            maps::map_to(&mut machine.mapregister, e.destination, 0);
-            maps::set_valid(&mut machine.mapvalid, e.destination, false);
-            let head = machine.namehead;
-            let following = maps::look_up(&machine.namelink, head);
-            machine.namehead = decoding::head_after(e.destination, head, following);
-            maps::store_under(&mut machine.namelink, e.name, 0);
-            machine.entries[count] = e;
-            machine.count += 1;
-            machine.fetch = e.predicted;
-            let decoded = counting::accepted(counts, 0, 0, 0);
-            counts = decoded;
-            continue;
-        }
-        let at = r.position as usize;
-        if at < count {
-            let e = machine.entries[at];
-            // issue in place, since only the entry changes
-            if ways::issues(r, halt, e) {
-                let read = ways::read(&machine.values, data, e);
-                machine.entries[at] = read;
+        let at = ways::place(r);
+        let e = entries[at];
+        let way = ways::way_of(r, halt, setup, count, e);
+        match way {
+            Way::Decode => {
+                let n = decoding::entry_for(
+                    &mapname,
+                    &mapregister,
+                    &mapvalid,
+                    namehead,
+                    fetch,
+                    program,
+                    r.guess,
+                );
+                namehead = changes::rename(
+                    &mut mapname,
+                    &mut mapregister,
+                    &mut mapvalid,
+                    &mut namelink,
+                    namehead,
+                    n,
+                );
+                entries[count] = n;
+                count += 1;
+                kept = count;
+                fetch = n.predicted;
+                let decoded = counting::accepted(counts, 0, 0, 0);
+                counts = decoded;
+            }
+            Way::Issue => {
+                let read = ways::read(&values, data, e);
+                entries[at] = read;
                 let issued = counting::accepted(counts, 0, 0, 0);
                 counts = issued;
-                continue;
             }
-            if ways::completes(r, halt, e) {
-                let o = ways::outcome(s, e);
-                if ways::smooth(o, e) {
-                    // complete in place without a destination, since only the entry changes
-                    if e.destination == 0 {
-                        let ended = entries::completed(e, 0);
-                        machine.entries[at] = ended;
-                        let settled = counting::accepted(counts, 0, 0, 0);
-                        counts = settled;
-                        continue;
+            Way::Load => {
+                let mut found = false;
+                let mut k: usize = 0;
+                'older: while k < at {
+                    let x = entries[k];
+                    let i = x.instruction;
+                    found = roles::is_store(i) | found;
+                    k += 1;
+                }
+                if found {
+                    let barred = counting::refused(counts);
+                    counts = barred;
+                } else {
+                    let read = ways::read(&values, data, e);
+                    entries[at] = read;
+                    let loaded = counting::accepted(counts, 0, 0, 0);
+                    counts = loaded;
+                }
+            }
+            Way::Complete => {
+                let o = ways::outcome(setup, e);
+                let ending = ways::ending_of(e, o, registerhead);
+                match ending {
+                    Ending::Stops => {
+                        let stop = o.stop;
+                        let ended = entry::stopped(e, stop);
+                        entries[at] = ended;
+                        let stopped = counting::accepted(counts, 0, 0, 0);
+                        counts = stopped;
                     }
-                    // complete in place with a free register, since nothing but the wakened entries and one element of a table change
-                    let free = machine.registerhead;
-                    if free != 0 {
-                        let done = entries::completed(e, o.result);
-                        machine.entries[at] = done;
-                        let shown = maps::mapped(&machine.mapname, e.destination);
-                        maps::map_where(
-                            &mut machine.mapregister,
-                            shown == e.name,
-                            e.destination,
-                            free,
-                        );
-                        maps::valid_where(
-                            &mut machine.mapvalid,
-                            shown == e.name,
-                            e.destination,
+                    Ending::WithoutDestination => {
+                        let done = changes::finished(e, 0, o.next);
+                        entries[at] = done;
+                        kept = ways::kept_after(o.next, e.predicted, at, count);
+                        fetch = ways::fetch_after(o.next, e.predicted, fetch);
+                        let finished = counting::accepted(counts, 0, 0, (count - kept) as u32);
+                        counts = finished;
+                    }
+                    Ending::Supplied => {
+                        let register = registerhead;
+                        let done = changes::finished(e, o.result, o.next);
+                        entries[at] = done;
+                        changes::learn(
+                            &mapname,
+                            &mut mapregister,
+                            &mut mapvalid,
+                            &mut physical,
+                            e,
+                            register,
                             true,
                         );
-                        maps::store_under(&mut machine.physical, e.name, free);
-                        maps::store_value(&mut machine.values, free, o.result);
-                        let after = free_list::take(&mut machine.registerlink, free);
-                        machine.registerhead = after;
+                        maps::store_value(&mut values, register, o.result);
+                        registerhead = free_list::take(&mut registerlink, register);
                         let mut k: usize = 0;
-                        while k < count {
-                            let x = machine.entries[k];
-                            let woken = entries::wake(x, e.name, free);
-                            machine.entries[k] = woken;
+                        'wake: while k < count {
+                            let x = entries[k];
+                            if ways::is_on(x, e.name) {
+                                let woken = entry::wake(x, e.name, register);
+                                entries[k] = woken;
+                            }
                             k += 1;
                         }
-                        let learned = counting::accepted(counts, 0, 0, 0);
+                        kept = ways::kept_after(o.next, e.predicted, at, count);
+                        fetch = ways::fetch_after(o.next, e.predicted, fetch);
+                        let learned = counting::accepted(counts, 0, 0, (count - kept) as u32);
                         counts = learned;
-                        continue;
+                    }
+                    Ending::Steals => {
+                        let mut k = count - 1;
+                        let victim = 'search: loop {
+                            if k <= at {
+                                break 'search at;
+                            }
+                            let x = entries[k];
+                            if entry::held(&physical, x) != 0 {
+                                break 'search k;
+                            }
+                            k -= 1;
+                        };
+                        if victim == at {
+                            let barred = counting::refused(counts);
+                            counts = barred;
+                        } else {
+                            let owner = entries[victim];
+                            let register = entry::held(&physical, owner);
+                            let again = entry::waiting(owner);
+                            entries[victim] = again;
+                            changes::learn(
+                                &mapname,
+                                &mut mapregister,
+                                &mut mapvalid,
+                                &mut physical,
+                                owner,
+                                0,
+                                false,
+                            );
+                            let done = changes::finished(e, o.result, o.next);
+                            entries[at] = done;
+                            changes::learn(
+                                &mapname,
+                                &mut mapregister,
+                                &mut mapvalid,
+                                &mut physical,
+                                e,
+                                register,
+                                true,
+                            );
+                            maps::store_value(&mut values, register, o.result);
+                            let mut j: usize = 0;
+                            'pass: while j < count {
+                                let x = entries[j];
+                                let passed = changes::passed_on(x, owner.name, e.name, register);
+                                entries[j] = passed;
+                                j += 1;
+                            }
+                            kept = ways::kept_after(o.next, e.predicted, at, count);
+                            fetch = ways::fetch_after(o.next, e.predicted, fetch);
+                            let stolen = counting::accepted(counts, 0, 1, (count - kept) as u32);
+                            counts = stolen;
+                        }
                     }
                 }
             }
-            // commit in place without a cause, since the entries move by one and two chains grow
-            if ways::retires(r, halt, e) {
+            Way::Commit => {
                 let i = e.instruction;
                 execution::store(i, data, e.first, e.second);
-                let register = maps::look_up(&machine.physical, e.previous);
-                let old_register = machine.registerhead;
-                let register_head = free_list::free(
-                    &mut machine.registerlink,
-                    old_register,
-                    register,
+                let heads = Heads {
+                    register: registerhead,
+                    name: namehead,
+                };
+                let freed = changes::retire(
+                    &mut physical,
+                    &mut registerlink,
+                    &mut namelink,
+                    heads,
+                    e.previous,
                 );
-                machine.registerhead = register_head;
-                maps::store_under(&mut machine.physical, e.previous, 0);
-                let old_name = machine.namehead;
-                let name_head = free_list::free(&mut machine.namelink, old_name, e.previous);
-                machine.namehead = name_head;
-                machine.next = e.predicted;
-                let last = count - 1;
+                registerhead = freed.register;
+                namehead = freed.name;
+                next = e.predicted;
+                count -= 1;
+                kept = count;
                 let mut j: usize = 0;
-                while j < last {
-                    let y = machine.entries[j + 1];
-                    machine.entries[j] = y;
+                'shift: while j < count {
+                    let y = entries[j + 1];
+                    entries[j] = y;
                     j += 1;
                 }
-                let empty = entries::empty();
-                machine.entries[last] = empty;
-                machine.count -= 1;
-                let committed = counting::accepted(counts, 1, 0, 0);
-                counts = committed;
-                continue;
+                let empty = entry::empty();
+                entries[count] = empty;
+                let retired = counting::accepted(counts, 1, 0, 0);
+                counts = retired;
+            }
+            Way::Halt => {
+                let stop = e.stop;
+                halt = stop;
+                kept = 0;
+                let halted = counting::accepted(counts, 0, 0, (count - 1) as u32);
+                counts = halted;
+            }
+            Way::Refused => {
+                let refused = counting::refused(counts);
+                counts = refused;
             }
         }
-        let p = making::event(machine, program, data, r, counts);
-        let next = p.machine;
-        machine = next;
-        let counted = p.counts;
-        counts = counted;
     }
-    Played { machine, counts }
+    Played {
+        machine: Machine {
+            setup,
+            count: count as u8,
+            entries,
+            mapname,
+            mapregister,
+            mapvalid,
+            physical,
+            values,
+            registerhead,
+            registerlink,
+            namehead,
+            namelink,
+            fetch,
+            next,
+            halt,
+        },
+        counts,
+    }
 }

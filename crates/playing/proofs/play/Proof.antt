@@ -1,635 +1,3157 @@
-use Prim.Native.Nat.{_-_, _≤_, _<_}
-use mathlib.Core.Path.{_≡_, refl, ap, _∙_}
-use native.Mathlib.Omega.{arith}
-use denote.Ref.{now}
-use lib.ListN.{length}
-use borrow.Author.Needs.{needs}
-use Rattle.tables.specs.Entry.{wakeEntry}
-use Rattle.machine.specs.Changes.{entryAt, changeFirst}
-use Rattle.machine.specs.Setters.{withEntries}
-use Rattle.machine.specs.declared.Machine.{Machine}
-use Rattle.machine.proofs.OperationLaws.{in-range-operation}
-use Rattle.machine.proofs.ChangeLaws.{change-turn}
-use Rattle.committing.proofs.CommitLaws.{shifted, shift-turn}
-use Rattle.formats.proofs.HeadLaws.{at-least, at-most}
-use Rattle.playing.proofs.PlayLaws.{Going, begins, ends, chain-ends, is-lent, in-range, kept, few, roomy, small-enough, inside, goes-on}
-use Rattle.playing.proofs.WayLaws.{decode-way, issue-way, settle-way, learn-way, commit-way, retired-here, wakes-none, wakes-all, moves-none, moves-all}
 use Rattle.playing.proofs.play.Statement.{statement}
 use Rattle.playing.proofs.play.Tie as tie
+use Rattle.playing.proofs.play.Reads as reads
+use Rattle.playing.proofs.play.Lts as lts
+use Rattle.decoding.proofs.entry_for.Reads as entry-for-reads
+use Rattle.events.proofs.counting.accepted.Reads as accepted-reads
+use Rattle.events.proofs.counting.refused.Reads as refused-reads
+use Rattle.execution.proofs.store.Reads as store-reads
+use Rattle.execution.proofs.roles.is_store.Reads as is-store-reads
+use Rattle.formats.proofs.first_index.Reads as first-index-reads
+use Rattle.formats.proofs.record_at.Reads as record-at-reads
+use Rattle.tables.proofs.entries.empty.Reads as empty-reads
+use Rattle.tables.proofs.entries.held.Reads as held-reads
+use Rattle.tables.proofs.entries.stopped.Reads as stopped-reads
+use Rattle.tables.proofs.entries.waiting.Reads as waiting-reads
+use Rattle.tables.proofs.entries.wake.Reads as wake-reads
+use Rattle.tables.proofs.free_list.take.Reads as take-reads
+use Rattle.tables.proofs.maps.store_value.Reads as store-value-reads
+use Rattle.turns.proofs.changes.finished.Reads as finished-reads
+use Rattle.turns.proofs.changes.learn.Reads as learn-reads
+use Rattle.turns.proofs.changes.passed_on.Reads as passed-on-reads
+use Rattle.turns.proofs.changes.rename.Reads as rename-reads
+use Rattle.turns.proofs.changes.restore.Reads as restore-reads
+use Rattle.turns.proofs.changes.retire.Reads as retire-reads
+use Rattle.turns.proofs.ways.ending_of.Reads as ending-of-reads
+use Rattle.turns.proofs.ways.fetch_after.Reads as fetch-after-reads
+use Rattle.turns.proofs.ways.is_on.Reads as is-on-reads
+use Rattle.turns.proofs.ways.kept_after.Reads as kept-after-reads
+use Rattle.turns.proofs.ways.outcome.Reads as outcome-reads
+use Rattle.turns.proofs.ways.place.Reads as place-reads
+use Rattle.turns.proofs.ways.read.Reads as read-reads
+use Rattle.turns.proofs.ways.way_of.Reads as way-of-reads
 
-abbrev Inv-loop2 : tie.InvT-loop2
-Inv-loop2 program «data» schedule machine₀ counts index left count at e free shown after k₀ machine k =
-    (k ≤ count) × (machine ≡ withEntries (changeFirst k (wakeEntry (e .name) free) (machine₀ .entries)) machine₀)
+abbrev Inv-older : tie.InvT-older
+Inv-older program «data» schedule setup entries mapname mapregister mapvalid physical values registerlink namelink registerhead namehead count fetch next halt kept counts index left at e found₀ k₀ found k =
+    ?
 
-abbrev μ-loop2 : tie.MeasureT-loop2
-μ-loop2 program «data» schedule machine₀ counts index left count at e free shown after k₀ machine k =
-    count - k
+abbrev μ-older : tie.MeasureT-older
+μ-older program «data» schedule setup entries mapname mapregister mapvalid physical values registerlink namelink registerhead namehead count fetch next halt kept counts index left at e found₀ k₀ found k =
+    ?
 
-abbrev Inv-loop3 : tie.InvT-loop3
-Inv-loop3 program «data» schedule machine₀ counts index left count at register old-register register-head old-name name-head last j₀ machine j =
-    (j ≤ last) × (machine ≡ withEntries (shifted j (machine₀ .entries)) machine₀)
+abbrev Inv-wake : tie.InvT-wake
+Inv-wake program «data» schedule setup entries₀ mapname mapregister mapvalid physical values registerlink namelink registerhead namehead count fetch next halt kept counts index left at e o register k₀ entries k =
+    ?
 
-abbrev μ-loop3 : tie.MeasureT-loop3
-μ-loop3 program «data» schedule machine₀ counts index left count at register old-register register-head old-name name-head last j₀ machine j =
-    last - j
+abbrev μ-wake : tie.MeasureT-wake
+μ-wake program «data» schedule setup entries₀ mapname mapregister mapvalid physical values registerlink namelink registerhead namehead count fetch next halt kept counts index left at e o register k₀ entries k =
+    ?
 
-abbrev Inv-loop : tie.InvT-loop
-Inv-loop program data₀ schedule machine₀ counts₀ index₀ left₀ «data» machine counts index left =
-    (length «data» ≡ length data₀) × Going program data₀ schedule left index machine «data» counts
+abbrev Inv-search : tie.InvT-search
+Inv-search program «data» schedule setup entries mapname mapregister mapvalid physical values registerlink namelink registerhead namehead count fetch next halt kept counts index left at e o k₀ k =
+    ?
 
-abbrev μ-loop : tie.MeasureT-loop
-μ-loop program data₀ schedule machine₀ counts₀ index₀ left₀ «data» machine counts index left = left
+abbrev μ-search : tie.MeasureT-search
+μ-search program «data» schedule setup entries mapname mapregister mapvalid physical values registerlink namelink registerhead namehead count fetch next halt kept counts index left at e o k₀ k =
+    ?
 
+abbrev Inv-pass : tie.InvT-pass
+Inv-pass program «data» schedule setup entries₀ mapname mapregister mapvalid physical values registerlink namelink registerhead namehead count fetch next halt kept counts index left at e o k victim owner register j₀ entries j =
+    ?
+
+abbrev μ-pass : tie.MeasureT-pass
+μ-pass program «data» schedule setup entries₀ mapname mapregister mapvalid physical values registerlink namelink registerhead namehead count fetch next halt kept counts index left at e o k victim owner register j₀ entries j =
+    ?
+
+abbrev Inv-shift : tie.InvT-shift
+Inv-shift program «data» schedule setup entries₀ mapname mapregister mapvalid physical values registerlink namelink registerhead namehead count fetch next halt kept counts index left at j₀ entries j =
+    ?
+
+abbrev μ-shift : tie.MeasureT-shift
+μ-shift program «data» schedule setup entries₀ mapname mapregister mapvalid physical values registerlink namelink registerhead namehead count fetch next halt kept counts index left at j₀ entries j =
+    ?
+
+abbrev Inv-turns : tie.InvT-turns
+Inv-turns program data₀ schedule setup entries₀ mapname₀ mapregister₀ mapvalid₀ physical₀ values₀ registerlink₀ namelink₀ registerhead₀ namehead₀ count₀ fetch₀ next₀ halt₀ kept₀ counts₀ index₀ left₀ «data» entries mapname mapregister mapvalid physical values registerlink namelink registerhead namehead count fetch next halt kept counts index left =
+    ?
+
+abbrev μ-turns : tie.MeasureT-turns
+μ-turns program data₀ schedule setup entries₀ mapname₀ mapregister₀ mapvalid₀ physical₀ values₀ registerlink₀ namelink₀ registerhead₀ namehead₀ count₀ fetch₀ next₀ halt₀ kept₀ counts₀ index₀ left₀ «data» entries mapname mapregister mapvalid physical values registerlink namelink registerhead namehead count fetch next halt kept counts index left =
+    ?
+
+-- src/lib.rt:37:21
+cast-count :
+    tie.Need-cast-count
+    Inv-older
+    μ-older
+    Inv-wake
+    μ-wake
+    Inv-search
+    μ-search
+    Inv-pass
+    μ-pass
+    Inv-shift
+    μ-shift
+    Inv-turns
+    μ-turns
+cast-count c = ?
+
+-- src/lib.rt:50:21
 first-index-requires :
-    tie.Need-first-index-requires Inv-loop2 μ-loop2 Inv-loop3 μ-loop3 Inv-loop μ-loop
-first-index-requires c κs =
-    at-least _ ((c .before .before .before) .pre .fits)
+    tie.Need-first-index-requires
+    Inv-older
+    μ-older
+    Inv-wake
+    μ-wake
+    Inv-search
+    μ-search
+    Inv-pass
+    μ-pass
+    Inv-shift
+    μ-shift
+    Inv-turns
+    μ-turns
+first-index-requires c κs = ?
 
-cast-index : tie.Need-cast-index Inv-loop2 μ-loop2 Inv-loop3 μ-loop3 Inv-loop μ-loop
-cast-index c =
-    search needs
+-- src/lib.rt:50:21
+cast-index :
+    tie.Need-cast-index
+    Inv-older
+    μ-older
+    Inv-wake
+    μ-wake
+    Inv-search
+    μ-search
+    Inv-pass
+    μ-pass
+    Inv-shift
+    μ-shift
+    Inv-turns
+    μ-turns
+cast-index c = ?
 
-loop-holds : tie.Need-loop-holds Inv-loop2 μ-loop2 Inv-loop3 μ-loop3 Inv-loop μ-loop
-loop-holds c =
-    let s = (c .before .before .before .before) in
-    (refl, begins (now (s .args .program)) (now (s .args .«data»)) (now (s .args .schedule)) (s .args .t1) _ (s .pre) (c .first-index .ensures))
+-- src/lib.rt:52:5
+turns-holds :
+    tie.Need-turns-holds
+    Inv-older
+    μ-older
+    Inv-wake
+    μ-wake
+    Inv-search
+    μ-search
+    Inv-pass
+    μ-pass
+    Inv-shift
+    μ-shift
+    Inv-turns
+    μ-turns
+turns-holds c = ?
 
+-- src/lib.rt:55:13
+sub-count :
+    tie.Need-sub-count
+    Inv-older
+    μ-older
+    Inv-wake
+    μ-wake
+    Inv-search
+    μ-search
+    Inv-pass
+    μ-pass
+    Inv-shift
+    μ-shift
+    Inv-turns
+    μ-turns
+sub-count c = ?
+
+-- src/lib.rt:56:21
+mul-x :
+    tie.Need-mul-x
+    Inv-older
+    μ-older
+    Inv-wake
+    μ-wake
+    Inv-search
+    μ-search
+    Inv-pass
+    μ-pass
+    Inv-shift
+    μ-shift
+    Inv-turns
+    μ-turns
+mul-x c = ?
+
+-- src/lib.rt:56:21
+array-copy-out-x :
+    tie.Need-array-copy-out-x
+    Inv-older
+    μ-older
+    Inv-wake
+    μ-wake
+    Inv-search
+    μ-search
+    Inv-pass
+    μ-pass
+    Inv-shift
+    μ-shift
+    Inv-turns
+    μ-turns
+array-copy-out-x c = ?
+
+-- src/lib.rt:57:17
+empty-requires :
+    tie.Need-empty-requires
+    Inv-older
+    μ-older
+    Inv-wake
+    μ-wake
+    Inv-search
+    μ-search
+    Inv-pass
+    μ-pass
+    Inv-shift
+    μ-shift
+    Inv-turns
+    μ-turns
+empty-requires c κs = ?
+
+-- src/lib.rt:58:13
+mul-entries :
+    tie.Need-mul-entries
+    Inv-older
+    μ-older
+    Inv-wake
+    μ-wake
+    Inv-search
+    μ-search
+    Inv-pass
+    μ-pass
+    Inv-shift
+    μ-shift
+    Inv-turns
+    μ-turns
+mul-entries c = ?
+
+-- src/lib.rt:58:13
+array-set-from-entries :
+    tie.Need-array-set-from-entries
+    Inv-older
+    μ-older
+    Inv-wake
+    μ-wake
+    Inv-search
+    μ-search
+    Inv-pass
+    μ-pass
+    Inv-shift
+    μ-shift
+    Inv-turns
+    μ-turns
+array-set-from-entries c = ?
+
+-- src/lib.rt:63:17
+restore-requires :
+    tie.Need-restore-requires
+    Inv-older
+    μ-older
+    Inv-wake
+    μ-wake
+    Inv-search
+    μ-search
+    Inv-pass
+    μ-pass
+    Inv-shift
+    μ-shift
+    Inv-turns
+    μ-turns
+restore-requires c κs = ?
+
+-- src/lib.rt:52:5
+turns-less :
+    tie.Need-turns-less
+    Inv-older
+    μ-older
+    Inv-wake
+    μ-wake
+    Inv-search
+    μ-search
+    Inv-pass
+    μ-pass
+    Inv-shift
+    μ-shift
+    Inv-turns
+    μ-turns
+turns-less c = ?
+
+-- src/lib.rt:52:5
+turns-again :
+    tie.Need-turns-again
+    Inv-older
+    μ-older
+    Inv-wake
+    μ-wake
+    Inv-search
+    μ-search
+    Inv-pass
+    μ-pass
+    Inv-shift
+    μ-shift
+    Inv-turns
+    μ-turns
+turns-again c = ?
+
+-- src/lib.rt:83:13
 record-at-requires :
-    tie.Need-record-at-requires Inv-loop2 μ-loop2 Inv-loop3 μ-loop3 Inv-loop μ-loop
-record-at-requires c κs =
-    let i = inside ((c .before .before) .loop .inv .1) ((c .before) .loop-test .taken) (c .if1 .left) in
-    omega arith
+    tie.Need-record-at-requires
+    Inv-older
+    μ-older
+    Inv-wake
+    μ-wake
+    Inv-search
+    μ-search
+    Inv-pass
+    μ-pass
+    Inv-shift
+    μ-shift
+    Inv-turns
+    μ-turns
+record-at-requires c κs = ?
 
-cast-index-2 : tie.Need-cast-index-2 Inv-loop2 μ-loop2 Inv-loop3 μ-loop3 Inv-loop μ-loop
-cast-index-2 c =
-    search needs
+-- src/lib.rt:84:17
+cast-index-2 :
+    tie.Need-cast-index-2
+    Inv-older
+    μ-older
+    Inv-wake
+    μ-wake
+    Inv-search
+    μ-search
+    Inv-pass
+    μ-pass
+    Inv-shift
+    μ-shift
+    Inv-turns
+    μ-turns
+cast-index-2 c = ?
 
-sub-left : tie.Need-sub-left Inv-loop2 μ-loop2 Inv-loop3 μ-loop3 Inv-loop μ-loop
-sub-left c =
-    let t = ((c .before .before .before) .loop-test .taken) in
-    omega arith
+-- src/lib.rt:85:9
+sub-left :
+    tie.Need-sub-left
+    Inv-older
+    μ-older
+    Inv-wake
+    μ-wake
+    Inv-search
+    μ-search
+    Inv-pass
+    μ-pass
+    Inv-shift
+    μ-shift
+    Inv-turns
+    μ-turns
+sub-left c = ?
 
-cast-count : tie.Need-cast-count Inv-loop2 μ-loop2 Inv-loop3 μ-loop3 Inv-loop μ-loop
-cast-count c =
-    search needs
+-- src/lib.rt:86:13
+place-requires :
+    tie.Need-place-requires
+    Inv-older
+    μ-older
+    Inv-wake
+    μ-wake
+    Inv-search
+    μ-search
+    Inv-pass
+    μ-pass
+    Inv-shift
+    μ-shift
+    Inv-turns
+    μ-turns
+place-requires c κs = ?
 
-decodes-requires : tie.Need-decodes-requires Inv-loop2 μ-loop2 Inv-loop3 μ-loop3 Inv-loop μ-loop
-decodes-requires c κs =
-    search needs
+-- src/lib.rt:87:17
+mul-e :
+    tie.Need-mul-e
+    Inv-older
+    μ-older
+    Inv-wake
+    μ-wake
+    Inv-search
+    μ-search
+    Inv-pass
+    μ-pass
+    Inv-shift
+    μ-shift
+    Inv-turns
+    μ-turns
+mul-e c = ?
 
+-- src/lib.rt:87:17
+array-copy-out-e :
+    tie.Need-array-copy-out-e
+    Inv-older
+    μ-older
+    Inv-wake
+    μ-wake
+    Inv-search
+    μ-search
+    Inv-pass
+    μ-pass
+    Inv-shift
+    μ-shift
+    Inv-turns
+    μ-turns
+array-copy-out-e c = ?
+
+-- src/lib.rt:88:13
+way-of-requires :
+    tie.Need-way-of-requires
+    Inv-older
+    μ-older
+    Inv-wake
+    μ-wake
+    Inv-search
+    μ-search
+    Inv-pass
+    μ-pass
+    Inv-shift
+    μ-shift
+    Inv-turns
+    μ-turns
+way-of-requires c κs = ?
+
+-- src/lib.rt:92:21
+enum-told :
+    tie.Need-enum-told
+    Inv-older
+    μ-older
+    Inv-wake
+    μ-wake
+    Inv-search
+    μ-search
+    Inv-pass
+    μ-pass
+    Inv-shift
+    μ-shift
+    Inv-turns
+    μ-turns
+enum-told c = ?
+
+-- src/lib.rt:91:21
 entry-for-requires :
-    tie.Need-entry-for-requires Inv-loop2 μ-loop2 Inv-loop3 μ-loop3 Inv-loop μ-loop
-entry-for-requires c κs =
-    let k = kept ((c .before .before .before .before .before .before .before .before .before .before .before .before) .loop .inv .1) in
-    (k .mapname, k .mapregister, k .mapvalid)
+    tie.Need-entry-for-requires
+    Inv-older
+    μ-older
+    Inv-wake
+    μ-wake
+    Inv-search
+    μ-search
+    Inv-pass
+    μ-pass
+    Inv-shift
+    μ-shift
+    Inv-turns
+    μ-turns
+entry-for-requires c κs = ?
 
-map-to-requires : tie.Need-map-to-requires Inv-loop2 μ-loop2 Inv-loop3 μ-loop3 Inv-loop μ-loop
-map-to-requires c κs =
-    kept ((c .before .before .before .before .before .before .before .before .before .before .before .before .before .before) .loop .inv .1) .mapname
+-- src/lib.rt:100:17
+rename-requires :
+    tie.Need-rename-requires
+    Inv-older
+    μ-older
+    Inv-wake
+    μ-wake
+    Inv-search
+    μ-search
+    Inv-pass
+    μ-pass
+    Inv-shift
+    μ-shift
+    Inv-turns
+    μ-turns
+rename-requires c κs = ?
 
-map-to-requires-2 : tie.Need-map-to-requires-2 Inv-loop2 μ-loop2 Inv-loop3 μ-loop3 Inv-loop μ-loop
-map-to-requires-2 c κs =
-    kept ((c .before .before .before .before .before .before .before .before .before .before .before .before .before .before .before .before) .loop .inv .1) .mapregister
+-- src/lib.rt:108:17
+mul-entries-2 :
+    tie.Need-mul-entries-2
+    Inv-older
+    μ-older
+    Inv-wake
+    μ-wake
+    Inv-search
+    μ-search
+    Inv-pass
+    μ-pass
+    Inv-shift
+    μ-shift
+    Inv-turns
+    μ-turns
+mul-entries-2 c = ?
 
-set-valid-requires :
-    tie.Need-set-valid-requires Inv-loop2 μ-loop2 Inv-loop3 μ-loop3 Inv-loop μ-loop
-set-valid-requires c κs =
-    kept ((c .before .before .before .before .before .before .before .before .before .before .before .before .before .before .before .before .before .before) .loop .inv .1) .mapvalid
+-- src/lib.rt:108:17
+array-set-from-entries-2 :
+    tie.Need-array-set-from-entries-2
+    Inv-older
+    μ-older
+    Inv-wake
+    μ-wake
+    Inv-search
+    μ-search
+    Inv-pass
+    μ-pass
+    Inv-shift
+    μ-shift
+    Inv-turns
+    μ-turns
+array-set-from-entries-2 c = ?
 
-look-up-requires : tie.Need-look-up-requires Inv-loop2 μ-loop2 Inv-loop3 μ-loop3 Inv-loop μ-loop
-look-up-requires c κs =
-    kept ((c .before .before .before .before .before .before .before .before .before .before .before .before .before .before .before .before .before .before .before .before .before) .loop .inv .1) .namelink
+-- src/lib.rt:109:17
+add-count :
+    tie.Need-add-count
+    Inv-older
+    μ-older
+    Inv-wake
+    μ-wake
+    Inv-search
+    μ-search
+    Inv-pass
+    μ-pass
+    Inv-shift
+    μ-shift
+    Inv-turns
+    μ-turns
+add-count c = ?
 
-head-after-requires :
-    tie.Need-head-after-requires Inv-loop2 μ-loop2 Inv-loop3 μ-loop3 Inv-loop μ-loop
-head-after-requires c κs =
-    search needs
+-- src/lib.rt:112:21
+accepted-requires :
+    tie.Need-accepted-requires
+    Inv-older
+    μ-older
+    Inv-wake
+    μ-wake
+    Inv-search
+    μ-search
+    Inv-pass
+    μ-pass
+    Inv-shift
+    μ-shift
+    Inv-turns
+    μ-turns
+accepted-requires c κs = ?
 
-store-under-requires :
-    tie.Need-store-under-requires Inv-loop2 μ-loop2 Inv-loop3 μ-loop3 Inv-loop μ-loop
-store-under-requires c κs =
-    kept ((c .before .before .before .before .before .before .before .before .before .before .before .before .before .before .before .before .before .before .before .before .before .before .before .before) .loop .inv .1) .namelink
+-- src/lib.rt:52:5
+turns-less-2 :
+    tie.Need-turns-less-2
+    Inv-older
+    μ-older
+    Inv-wake
+    μ-wake
+    Inv-search
+    μ-search
+    Inv-pass
+    μ-pass
+    Inv-shift
+    μ-shift
+    Inv-turns
+    μ-turns
+turns-less-2 c = ?
 
-mul-e : tie.Need-mul-e Inv-loop2 μ-loop2 Inv-loop3 μ-loop3 Inv-loop μ-loop
-mul-e c =
-    let d = ((c .before .before .before .before .before .before .before .before .before .before .before .before .before .before .before .before .before .before) .decodes .ensures ((c .before .before .before .before .before .before .before .before .before .before .before .before .before .before .before .before .before) .if2 .taken)) in
-    let k = kept ((c .before .before .before .before .before .before .before .before .before .before .before .before .before .before .before .before .before .before .before .before .before .before .before .before .before) .loop .inv .1) in
-    omega (arith, d .room, k .window)
+-- src/lib.rt:52:5
+turns-again-2 :
+    tie.Need-turns-again-2
+    Inv-older
+    μ-older
+    Inv-wake
+    μ-wake
+    Inv-search
+    μ-search
+    Inv-pass
+    μ-pass
+    Inv-shift
+    μ-shift
+    Inv-turns
+    μ-turns
+turns-again-2 c = ?
 
-element-set-from-e :
-    tie.Need-element-set-from-e Inv-loop2 μ-loop2 Inv-loop3 μ-loop3 Inv-loop μ-loop
-element-set-from-e c =
-    let d = ((c .before .before .before .before .before .before .before .before .before .before .before .before .before .before .before .before .before .before) .decodes .ensures ((c .before .before .before .before .before .before .before .before .before .before .before .before .before .before .before .before .before) .if2 .taken)) in
-    let k = kept ((c .before .before .before .before .before .before .before .before .before .before .before .before .before .before .before .before .before .before .before .before .before .before .before .before .before) .loop .inv .1) in
-    omega (arith, d .room, k .window)
+-- src/lib.rt:116:39
+enum-told-2 :
+    tie.Need-enum-told-2
+    Inv-older
+    μ-older
+    Inv-wake
+    μ-wake
+    Inv-search
+    μ-search
+    Inv-pass
+    μ-pass
+    Inv-shift
+    μ-shift
+    Inv-turns
+    μ-turns
+enum-told-2 c = ?
 
-add-machine : tie.Need-add-machine Inv-loop2 μ-loop2 Inv-loop3 μ-loop3 Inv-loop μ-loop
-add-machine c =
-    let d = ((c .before .before .before .before .before .before .before .before .before .before .before .before .before .before .before .before .before .before) .decodes .ensures ((c .before .before .before .before .before .before .before .before .before .before .before .before .before .before .before .before .before) .if2 .taken)) in
-    let k = kept ((c .before .before .before .before .before .before .before .before .before .before .before .before .before .before .before .before .before .before .before .before .before .before .before .before .before) .loop .inv .1) in
-    omega (arith, d .room, k .window)
+-- src/lib.rt:116:21
+read-requires :
+    tie.Need-read-requires
+    Inv-older
+    μ-older
+    Inv-wake
+    μ-wake
+    Inv-search
+    μ-search
+    Inv-pass
+    μ-pass
+    Inv-shift
+    μ-shift
+    Inv-turns
+    μ-turns
+read-requires c κs = ?
 
-accepted-requires : tie.Need-accepted-requires Inv-loop2 μ-loop2 Inv-loop3 μ-loop3 Inv-loop μ-loop
-accepted-requires c κs =
-    (small-enough ((c .before .before .before .before .before .before .before .before .before .before .before .before .before .before .before .before .before .before .before .before .before .before .before .before .before) .loop .inv .1) (at-most _ ((c .before .before .before .before .before .before .before .before .before .before .before .before .before .before .before .before .before .before .before .before .before .before .before .before .before .before .before .before .before .before) .pre .fits)), omega arith, omega arith, omega arith)
+-- src/lib.rt:117:17
+mul-entries-3 :
+    tie.Need-mul-entries-3
+    Inv-older
+    μ-older
+    Inv-wake
+    μ-wake
+    Inv-search
+    μ-search
+    Inv-pass
+    μ-pass
+    Inv-shift
+    μ-shift
+    Inv-turns
+    μ-turns
+mul-entries-3 c = ?
 
-loop-less : tie.Need-loop-less Inv-loop2 μ-loop2 Inv-loop3 μ-loop3 Inv-loop μ-loop
-loop-less c =
-    let t = ((c .before .before .before .before .before .before .before .before .before .before .before .before .before .before .before .before .before .before .before .before .before .before .before .before .before) .loop-test .taken) in
-    omega arith
+-- src/lib.rt:117:17
+array-set-from-entries-3 :
+    tie.Need-array-set-from-entries-3
+    Inv-older
+    μ-older
+    Inv-wake
+    μ-wake
+    Inv-search
+    μ-search
+    Inv-pass
+    μ-pass
+    Inv-shift
+    μ-shift
+    Inv-turns
+    μ-turns
+array-set-from-entries-3 c = ?
 
-loop-again : tie.Need-loop-again Inv-loop2 μ-loop2 Inv-loop3 μ-loop3 Inv-loop μ-loop
-loop-again c = (
-  (c .before .before .before .before .before .before .before .before .before .before .before .before .before .before .before .before .before .before .before .before .before .before .before .before .before .before) .loop .inv .0,
-  goes-on ((c .before .before .before .before .before .before .before .before .before .before .before .before .before .before .before .before .before .before .before .before .before .before .before .before .before .before) .loop .inv .1) ((c .before .before .before .before .before .before .before .before .before .before .before .before .before .before .before .before .before .before .before .before .before .before .before .before .before) .loop-test .taken) ((c .before .before .before .before .before .before .before .before .before .before .before .before .before .before .before .before .before .before .before .before .before .before .before .before) .if1 .left) _ ((c .before .before .before .before .before .before .before .before .before .before .before .before .before .before .before .before .before .before .before .before .before .before .before) .record-at .ensures) _
-      (decode-way ((c .before .before .before .before .before .before .before .before .before .before .before .before .before .before .before .before .before .before .before .before .before .before .before .before .before .before) .loop .inv .1) _ _ ((c .before .before .before .before .before .before .before .before .before .before .before .before .before .before .before .before .before .before .before) .decodes .ensures ((c .before .before .before .before .before .before .before .before .before .before .before .before .before .before .before .before .before .before) .if2 .taken)) (c .accepted .ensures) _ _ _ _ _ _ _ ((c .before .before .before .before .before .before .before .before .before .before .before .before .before) .entry-for .ensures) ((c .before .before .before .before .before .before .before .before .before .before .before) .map-to .ensures) ((c .before .before .before .before .before .before .before .before .before) .map-to2 .ensures)
-      ((c .before .before .before .before .before .before .before) .set-valid .ensures) ((c .before .before .before .before) .look-up .ensures) ((c .before .before .before) .head-after .ensures) ((c .before) .store-under .ensures)),
-)
-
-cast-at : tie.Need-cast-at Inv-loop2 μ-loop2 Inv-loop3 μ-loop3 Inv-loop μ-loop
-cast-at c =
-    search needs
-
-mul-e-2 : tie.Need-mul-e-2 Inv-loop2 μ-loop2 Inv-loop3 μ-loop3 Inv-loop μ-loop
-mul-e-2 c =
-    let f = few ((c .before .before .before .before .before .before .before .before .before .before) .loop .inv .1) in
-    let b = (c) .if3 .taken in
-    omega arith
-
-element-copy-out-e :
-    tie.Need-element-copy-out-e Inv-loop2 μ-loop2 Inv-loop3 μ-loop3 Inv-loop μ-loop
-element-copy-out-e c =
-    let f = few ((c .before .before .before .before .before .before .before .before .before .before) .loop .inv .1) in
-    let b = (c) .if3 .taken in
-    omega arith
-
-issues-requires : tie.Need-issues-requires Inv-loop2 μ-loop2 Inv-loop3 μ-loop3 Inv-loop μ-loop
-issues-requires c κs =
-    in-range-operation ((c .before .before .before .before .before .before .before .before .before .before .before) .loop .machine) _ (in-range ((c .before .before .before .before .before .before .before .before .before .before .before) .loop .inv .1)) ((c .before) .if3 .taken)
-
-read-requires : tie.Need-read-requires Inv-loop2 μ-loop2 Inv-loop3 μ-loop3 Inv-loop μ-loop
-read-requires c κs =
-    (in-range-operation ((c .before .before .before .before .before .before .before .before .before .before .before .before .before .before .before .before) .loop .machine) _ (in-range ((c .before .before .before .before .before .before .before .before .before .before .before .before .before .before .before .before) .loop .inv .1)) ((c .before .before .before .before .before .before) .if3 .taken), kept ((c .before .before .before .before .before .before .before .before .before .before .before .before .before .before .before .before) .loop .inv .1) .values)
-
-mul-read : tie.Need-mul-read Inv-loop2 μ-loop2 Inv-loop3 μ-loop3 Inv-loop μ-loop
-mul-read c =
-    let f = few ((c .before .before .before .before .before .before .before .before .before .before .before .before .before .before .before .before .before) .loop .inv .1) in
-    let b = (c .before .before .before .before .before .before .before) .if3 .taken in
-    omega arith
-
-element-set-from-read :
-    tie.Need-element-set-from-read Inv-loop2 μ-loop2 Inv-loop3 μ-loop3 Inv-loop μ-loop
-element-set-from-read c =
-    let f = few ((c .before .before .before .before .before .before .before .before .before .before .before .before .before .before .before .before .before) .loop .inv .1) in
-    let b = (c .before .before .before .before .before .before .before) .if3 .taken in
-    omega arith
-
+-- src/lib.rt:118:21
 accepted-requires-2 :
-    tie.Need-accepted-requires-2 Inv-loop2 μ-loop2 Inv-loop3 μ-loop3 Inv-loop μ-loop
-accepted-requires-2 c κs =
-    (small-enough ((c .before .before .before .before .before .before .before .before .before .before .before .before .before .before .before .before .before) .loop .inv .1) (at-most _ ((c .before .before .before .before .before .before .before .before .before .before .before .before .before .before .before .before .before .before .before .before .before .before) .pre .fits)), omega arith, omega arith, omega arith)
+    tie.Need-accepted-requires-2
+    Inv-older
+    μ-older
+    Inv-wake
+    μ-wake
+    Inv-search
+    μ-search
+    Inv-pass
+    μ-pass
+    Inv-shift
+    μ-shift
+    Inv-turns
+    μ-turns
+accepted-requires-2 c κs = ?
 
-loop-less-2 : tie.Need-loop-less-2 Inv-loop2 μ-loop2 Inv-loop3 μ-loop3 Inv-loop μ-loop
-loop-less-2 c =
-    let t = ((c .before .before .before .before .before .before .before .before .before .before .before .before .before .before .before .before .before) .loop-test .taken) in
-    omega arith
+-- src/lib.rt:52:5
+turns-less-3 :
+    tie.Need-turns-less-3
+    Inv-older
+    μ-older
+    Inv-wake
+    μ-wake
+    Inv-search
+    μ-search
+    Inv-pass
+    μ-pass
+    Inv-shift
+    μ-shift
+    Inv-turns
+    μ-turns
+turns-less-3 c = ?
 
-loop-again-2 : tie.Need-loop-again-2 Inv-loop2 μ-loop2 Inv-loop3 μ-loop3 Inv-loop μ-loop
-loop-again-2 c = (
-  (c .before .before .before .before .before .before .before .before .before .before .before .before .before .before .before .before .before .before) .loop .inv .0,
-  goes-on ((c .before .before .before .before .before .before .before .before .before .before .before .before .before .before .before .before .before .before) .loop .inv .1) ((c .before .before .before .before .before .before .before .before .before .before .before .before .before .before .before .before .before) .loop-test .taken) ((c .before .before .before .before .before .before .before .before .before .before .before .before .before .before .before .before) .if1 .left) _ ((c .before .before .before .before .before .before .before .before .before .before .before .before .before .before .before) .record-at .ensures) _
-      (issue-way ((c .before .before .before .before .before .before .before .before .before .before .before .before .before .before .before .before .before .before) .loop .inv .1) _ _ ((c .before .before .before .before .before .before .before .before) .if3 .taken) ((c .before .before .before .before .before .before) .issues .ensures ((c .before .before .before .before .before) .if4 .taken)) (c .accepted2 .ensures) _ ((c .before) .read .ensures)),
-)
+-- src/lib.rt:52:5
+turns-again-3 :
+    tie.Need-turns-again-3
+    Inv-older
+    μ-older
+    Inv-wake
+    μ-wake
+    Inv-search
+    μ-search
+    Inv-pass
+    μ-pass
+    Inv-shift
+    μ-shift
+    Inv-turns
+    μ-turns
+turns-again-3 c = ?
 
-completes-requires :
-    tie.Need-completes-requires Inv-loop2 μ-loop2 Inv-loop3 μ-loop3 Inv-loop μ-loop
-completes-requires c κs =
-    search needs
+-- src/lib.rt:122:21
+enum-told-3 :
+    tie.Need-enum-told-3
+    Inv-older
+    μ-older
+    Inv-wake
+    μ-wake
+    Inv-search
+    μ-search
+    Inv-pass
+    μ-pass
+    Inv-shift
+    μ-shift
+    Inv-turns
+    μ-turns
+enum-told-3 c = ?
 
-outcome-requires : tie.Need-outcome-requires Inv-loop2 μ-loop2 Inv-loop3 μ-loop3 Inv-loop μ-loop
-outcome-requires c κs =
-    in-range-operation ((c .before .before .before .before .before .before .before .before .before .before .before .before .before .before .before) .loop .machine) _ (in-range ((c .before .before .before .before .before .before .before .before .before .before .before .before .before .before .before) .loop .inv .1)) ((c .before .before .before .before .before) .if3 .taken)
+-- src/lib.rt:124:17
+older-holds :
+    tie.Need-older-holds
+    Inv-older
+    μ-older
+    Inv-wake
+    μ-wake
+    Inv-search
+    μ-search
+    Inv-pass
+    μ-pass
+    Inv-shift
+    μ-shift
+    Inv-turns
+    μ-turns
+older-holds c = ?
 
-smooth-requires : tie.Need-smooth-requires Inv-loop2 μ-loop2 Inv-loop3 μ-loop3 Inv-loop μ-loop
-smooth-requires c κs =
-    search needs
+-- src/lib.rt:125:29
+mul-x-2 :
+    tie.Need-mul-x-2
+    Inv-older
+    μ-older
+    Inv-wake
+    μ-wake
+    Inv-search
+    μ-search
+    Inv-pass
+    μ-pass
+    Inv-shift
+    μ-shift
+    Inv-turns
+    μ-turns
+mul-x-2 c = ?
 
-completed-requires :
-    tie.Need-completed-requires Inv-loop2 μ-loop2 Inv-loop3 μ-loop3 Inv-loop μ-loop
-completed-requires c κs =
-    search needs
+-- src/lib.rt:125:29
+array-copy-out-x-2 :
+    tie.Need-array-copy-out-x-2
+    Inv-older
+    μ-older
+    Inv-wake
+    μ-wake
+    Inv-search
+    μ-search
+    Inv-pass
+    μ-pass
+    Inv-shift
+    μ-shift
+    Inv-turns
+    μ-turns
+array-copy-out-x-2 c = ?
 
-mul-ended : tie.Need-mul-ended Inv-loop2 μ-loop2 Inv-loop3 μ-loop3 Inv-loop μ-loop
-mul-ended c =
-    let f = few ((c .before .before .before .before .before .before .before .before .before .before .before .before .before .before .before .before .before .before .before .before .before) .loop .inv .1) in
-    let b = (c .before .before .before .before .before .before .before .before .before .before .before) .if3 .taken in
-    omega arith
+-- src/lib.rt:127:29
+is-store-requires :
+    tie.Need-is-store-requires
+    Inv-older
+    μ-older
+    Inv-wake
+    μ-wake
+    Inv-search
+    μ-search
+    Inv-pass
+    μ-pass
+    Inv-shift
+    μ-shift
+    Inv-turns
+    μ-turns
+is-store-requires c κs = ?
 
-element-set-from-ended :
-    tie.Need-element-set-from-ended Inv-loop2 μ-loop2 Inv-loop3 μ-loop3 Inv-loop μ-loop
-element-set-from-ended c =
-    let f = few ((c .before .before .before .before .before .before .before .before .before .before .before .before .before .before .before .before .before .before .before .before .before) .loop .inv .1) in
-    let b = (c .before .before .before .before .before .before .before .before .before .before .before) .if3 .taken in
-    omega arith
+-- src/lib.rt:128:21
+add-k :
+    tie.Need-add-k
+    Inv-older
+    μ-older
+    Inv-wake
+    μ-wake
+    Inv-search
+    μ-search
+    Inv-pass
+    μ-pass
+    Inv-shift
+    μ-shift
+    Inv-turns
+    μ-turns
+add-k c = ?
 
+-- src/lib.rt:124:17
+older-less :
+    tie.Need-older-less
+    Inv-older
+    μ-older
+    Inv-wake
+    μ-wake
+    Inv-search
+    μ-search
+    Inv-pass
+    μ-pass
+    Inv-shift
+    μ-shift
+    Inv-turns
+    μ-turns
+older-less c = ?
+
+-- src/lib.rt:124:17
+older-again :
+    tie.Need-older-again
+    Inv-older
+    μ-older
+    Inv-wake
+    μ-wake
+    Inv-search
+    μ-search
+    Inv-pass
+    μ-pass
+    Inv-shift
+    μ-shift
+    Inv-turns
+    μ-turns
+older-again c = ?
+
+-- src/lib.rt:131:25
+refused-requires :
+    tie.Need-refused-requires
+    Inv-older
+    μ-older
+    Inv-wake
+    μ-wake
+    Inv-search
+    μ-search
+    Inv-pass
+    μ-pass
+    Inv-shift
+    μ-shift
+    Inv-turns
+    μ-turns
+refused-requires c κs = ?
+
+-- src/lib.rt:52:5
+turns-less-4 :
+    tie.Need-turns-less-4
+    Inv-older
+    μ-older
+    Inv-wake
+    μ-wake
+    Inv-search
+    μ-search
+    Inv-pass
+    μ-pass
+    Inv-shift
+    μ-shift
+    Inv-turns
+    μ-turns
+turns-less-4 c = ?
+
+-- src/lib.rt:52:5
+turns-again-4 :
+    tie.Need-turns-again-4
+    Inv-older
+    μ-older
+    Inv-wake
+    μ-wake
+    Inv-search
+    μ-search
+    Inv-pass
+    μ-pass
+    Inv-shift
+    μ-shift
+    Inv-turns
+    μ-turns
+turns-again-4 c = ?
+
+-- src/lib.rt:134:25
+read-requires-2 :
+    tie.Need-read-requires-2
+    Inv-older
+    μ-older
+    Inv-wake
+    μ-wake
+    Inv-search
+    μ-search
+    Inv-pass
+    μ-pass
+    Inv-shift
+    μ-shift
+    Inv-turns
+    μ-turns
+read-requires-2 c κs = ?
+
+-- src/lib.rt:135:21
+mul-entries-4 :
+    tie.Need-mul-entries-4
+    Inv-older
+    μ-older
+    Inv-wake
+    μ-wake
+    Inv-search
+    μ-search
+    Inv-pass
+    μ-pass
+    Inv-shift
+    μ-shift
+    Inv-turns
+    μ-turns
+mul-entries-4 c = ?
+
+-- src/lib.rt:135:21
+array-set-from-entries-4 :
+    tie.Need-array-set-from-entries-4
+    Inv-older
+    μ-older
+    Inv-wake
+    μ-wake
+    Inv-search
+    μ-search
+    Inv-pass
+    μ-pass
+    Inv-shift
+    μ-shift
+    Inv-turns
+    μ-turns
+array-set-from-entries-4 c = ?
+
+-- src/lib.rt:136:25
 accepted-requires-3 :
-    tie.Need-accepted-requires-3 Inv-loop2 μ-loop2 Inv-loop3 μ-loop3 Inv-loop μ-loop
-accepted-requires-3 c κs =
-    (small-enough ((c .before .before .before .before .before .before .before .before .before .before .before .before .before .before .before .before .before .before .before .before .before) .loop .inv .1) (at-most _ ((c .before .before .before .before .before .before .before .before .before .before .before .before .before .before .before .before .before .before .before .before .before .before .before .before .before .before) .pre .fits)), omega arith, omega arith, omega arith)
+    tie.Need-accepted-requires-3
+    Inv-older
+    μ-older
+    Inv-wake
+    μ-wake
+    Inv-search
+    μ-search
+    Inv-pass
+    μ-pass
+    Inv-shift
+    μ-shift
+    Inv-turns
+    μ-turns
+accepted-requires-3 c κs = ?
 
-loop-less-3 : tie.Need-loop-less-3 Inv-loop2 μ-loop2 Inv-loop3 μ-loop3 Inv-loop μ-loop
-loop-less-3 c =
-    let t = ((c .before .before .before .before .before .before .before .before .before .before .before .before .before .before .before .before .before .before .before .before .before) .loop-test .taken) in
-    omega arith
+-- src/lib.rt:52:5
+turns-less-5 :
+    tie.Need-turns-less-5
+    Inv-older
+    μ-older
+    Inv-wake
+    μ-wake
+    Inv-search
+    μ-search
+    Inv-pass
+    μ-pass
+    Inv-shift
+    μ-shift
+    Inv-turns
+    μ-turns
+turns-less-5 c = ?
 
-loop-again-3 : tie.Need-loop-again-3 Inv-loop2 μ-loop2 Inv-loop3 μ-loop3 Inv-loop μ-loop
-loop-again-3 c = (
-  (c .before .before .before .before .before .before .before .before .before .before .before .before .before .before .before .before .before .before .before .before .before .before) .loop .inv .0,
-  goes-on ((c .before .before .before .before .before .before .before .before .before .before .before .before .before .before .before .before .before .before .before .before .before .before) .loop .inv .1) ((c .before .before .before .before .before .before .before .before .before .before .before .before .before .before .before .before .before .before .before .before .before) .loop-test .taken) ((c .before .before .before .before .before .before .before .before .before .before .before .before .before .before .before .before .before .before .before .before) .if1 .left) _ ((c .before .before .before .before .before .before .before .before .before .before .before .before .before .before .before .before .before .before .before) .record-at .ensures) _
-      (settle-way ((c .before .before .before .before .before .before .before .before .before .before .before .before .before .before .before .before .before .before .before .before .before .before) .loop .inv .1) _ _ ((c .before .before .before .before .before .before .before .before .before .before .before .before) .if3 .taken) ((c .before .before .before .before .before .before .before .before) .completes .ensures ((c .before .before .before .before .before .before .before) .if5 .taken)) (c .accepted3 .ensures) _ ((c .before .before .before .before .before .before) .outcome .ensures) ((c .before .before .before .before .before) .smooth .ensures ((c .before .before .before .before) .if6 .taken)) ((c .before .before) .if7 .taken) _ ((c .before) .completed .ensures)),
-)
+-- src/lib.rt:52:5
+turns-again-5 :
+    tie.Need-turns-again-5
+    Inv-older
+    μ-older
+    Inv-wake
+    μ-wake
+    Inv-search
+    μ-search
+    Inv-pass
+    μ-pass
+    Inv-shift
+    μ-shift
+    Inv-turns
+    μ-turns
+turns-again-5 c = ?
 
-completed-requires-2 :
-    tie.Need-completed-requires-2 Inv-loop2 μ-loop2 Inv-loop3 μ-loop3 Inv-loop μ-loop
-completed-requires-2 c κs =
-    search needs
+-- src/lib.rt:141:21
+enum-told-4 :
+    tie.Need-enum-told-4
+    Inv-older
+    μ-older
+    Inv-wake
+    μ-wake
+    Inv-search
+    μ-search
+    Inv-pass
+    μ-pass
+    Inv-shift
+    μ-shift
+    Inv-turns
+    μ-turns
+enum-told-4 c = ?
 
-mul-done : tie.Need-mul-done Inv-loop2 μ-loop2 Inv-loop3 μ-loop3 Inv-loop μ-loop
-mul-done c =
-    let f = few ((c .before .before .before .before .before .before .before .before .before .before .before .before .before .before .before .before .before .before .before .before .before .before) .loop .inv .1) in
-    let b = (c .before .before .before .before .before .before .before .before .before .before .before .before) .if3 .taken in
-    omega arith
+-- src/lib.rt:141:21
+outcome-requires :
+    tie.Need-outcome-requires
+    Inv-older
+    μ-older
+    Inv-wake
+    μ-wake
+    Inv-search
+    μ-search
+    Inv-pass
+    μ-pass
+    Inv-shift
+    μ-shift
+    Inv-turns
+    μ-turns
+outcome-requires c κs = ?
 
-element-set-from-done :
-    tie.Need-element-set-from-done Inv-loop2 μ-loop2 Inv-loop3 μ-loop3 Inv-loop μ-loop
-element-set-from-done c =
-    let f = few ((c .before .before .before .before .before .before .before .before .before .before .before .before .before .before .before .before .before .before .before .before .before .before) .loop .inv .1) in
-    let b = (c .before .before .before .before .before .before .before .before .before .before .before .before) .if3 .taken in
-    omega arith
+-- src/lib.rt:142:21
+ending-of-requires :
+    tie.Need-ending-of-requires
+    Inv-older
+    μ-older
+    Inv-wake
+    μ-wake
+    Inv-search
+    μ-search
+    Inv-pass
+    μ-pass
+    Inv-shift
+    μ-shift
+    Inv-turns
+    μ-turns
+ending-of-requires c κs = ?
 
-mapped-requires : tie.Need-mapped-requires Inv-loop2 μ-loop2 Inv-loop3 μ-loop3 Inv-loop μ-loop
-mapped-requires c κs =
-    kept ((c .before .before .before .before .before .before .before .before .before .before .before .before .before .before .before .before .before .before .before .before .before .before .before .before) .loop .inv .1) .mapname
+-- src/lib.rt:145:29
+enum-told-5 :
+    tie.Need-enum-told-5
+    Inv-older
+    μ-older
+    Inv-wake
+    μ-wake
+    Inv-search
+    μ-search
+    Inv-pass
+    μ-pass
+    Inv-shift
+    μ-shift
+    Inv-turns
+    μ-turns
+enum-told-5 c = ?
 
-map-where-requires :
-    tie.Need-map-where-requires Inv-loop2 μ-loop2 Inv-loop3 μ-loop3 Inv-loop μ-loop
-map-where-requires c κs =
-    kept ((c .before .before .before .before .before .before .before .before .before .before .before .before .before .before .before .before .before .before .before .before .before .before .before .before .before .before .before) .loop .inv .1) .mapregister
+-- src/lib.rt:146:29
+stopped-requires :
+    tie.Need-stopped-requires
+    Inv-older
+    μ-older
+    Inv-wake
+    μ-wake
+    Inv-search
+    μ-search
+    Inv-pass
+    μ-pass
+    Inv-shift
+    μ-shift
+    Inv-turns
+    μ-turns
+stopped-requires c κs = ?
 
-valid-where-requires :
-    tie.Need-valid-where-requires Inv-loop2 μ-loop2 Inv-loop3 μ-loop3 Inv-loop μ-loop
-valid-where-requires c κs =
-    kept ((c .before .before .before .before .before .before .before .before .before .before .before .before .before .before .before .before .before .before .before .before .before .before .before .before .before .before .before .before .before .before) .loop .inv .1) .mapvalid
+-- src/lib.rt:147:25
+mul-entries-5 :
+    tie.Need-mul-entries-5
+    Inv-older
+    μ-older
+    Inv-wake
+    μ-wake
+    Inv-search
+    μ-search
+    Inv-pass
+    μ-pass
+    Inv-shift
+    μ-shift
+    Inv-turns
+    μ-turns
+mul-entries-5 c = ?
 
-store-under-requires-2 :
-    tie.Need-store-under-requires-2 Inv-loop2 μ-loop2 Inv-loop3 μ-loop3 Inv-loop μ-loop
-store-under-requires-2 c κs =
-    kept ((c .before .before .before .before .before .before .before .before .before .before .before .before .before .before .before .before .before .before .before .before .before .before .before .before .before .before .before .before .before .before .before .before) .loop .inv .1) .physical
+-- src/lib.rt:147:25
+array-set-from-entries-5 :
+    tie.Need-array-set-from-entries-5
+    Inv-older
+    μ-older
+    Inv-wake
+    μ-wake
+    Inv-search
+    μ-search
+    Inv-pass
+    μ-pass
+    Inv-shift
+    μ-shift
+    Inv-turns
+    μ-turns
+array-set-from-entries-5 c = ?
 
-store-value-requires :
-    tie.Need-store-value-requires Inv-loop2 μ-loop2 Inv-loop3 μ-loop3 Inv-loop μ-loop
-store-value-requires c κs =
-    kept ((c .before .before .before .before .before .before .before .before .before .before .before .before .before .before .before .before .before .before .before .before .before .before .before .before .before .before .before .before .before .before .before .before .before .before) .loop .inv .1) .values
-
-take-requires : tie.Need-take-requires Inv-loop2 μ-loop2 Inv-loop3 μ-loop3 Inv-loop μ-loop
-take-requires c κs =
-    kept ((c .before .before .before .before .before .before .before .before .before .before .before .before .before .before .before .before .before .before .before .before .before .before .before .before .before .before .before .before .before .before .before .before .before .before .before .before) .loop .inv .1) .registerlink
-
-loop2-holds : tie.Need-loop2-holds Inv-loop2 μ-loop2 Inv-loop3 μ-loop3 Inv-loop μ-loop
-loop2-holds c =
-    (omega arith, wakes-none _ _)
-
-mul-x : tie.Need-mul-x Inv-loop2 μ-loop2 Inv-loop3 μ-loop3 Inv-loop μ-loop
-mul-x c =
-    let f = few ((c .before .before .before .before .before .before .before .before .before .before .before .before .before .before .before .before .before .before .before .before .before .before .before .before .before .before .before .before .before .before .before .before .before .before .before .before .before .before .before) .loop .inv .1) in
-    let b = (c) .loop2-test .taken in
-    omega arith
-
-element-copy-out-x :
-    tie.Need-element-copy-out-x Inv-loop2 μ-loop2 Inv-loop3 μ-loop3 Inv-loop μ-loop
-element-copy-out-x c =
-    let f = few ((c .before .before .before .before .before .before .before .before .before .before .before .before .before .before .before .before .before .before .before .before .before .before .before .before .before .before .before .before .before .before .before .before .before .before .before .before .before .before .before) .loop .inv .1) in
-    let b = (c) .loop2-test .taken in
-    omega arith
-
-wake-requires : tie.Need-wake-requires Inv-loop2 μ-loop2 Inv-loop3 μ-loop3 Inv-loop μ-loop
-wake-requires c κs =
-    search needs
-
-mul-woken : tie.Need-mul-woken Inv-loop2 μ-loop2 Inv-loop3 μ-loop3 Inv-loop μ-loop
-mul-woken c =
-    let f = few ((c .before .before .before .before .before .before .before .before .before .before .before .before .before .before .before .before .before .before .before .before .before .before .before .before .before .before .before .before .before .before .before .before .before .before .before .before .before .before .before .before .before) .loop .inv .1) in
-    let b = (c .before .before) .loop2-test .taken in
-    omega arith
-
-element-set-from-woken :
-    tie.Need-element-set-from-woken Inv-loop2 μ-loop2 Inv-loop3 μ-loop3 Inv-loop μ-loop
-element-set-from-woken c =
-    let f = few ((c .before .before .before .before .before .before .before .before .before .before .before .before .before .before .before .before .before .before .before .before .before .before .before .before .before .before .before .before .before .before .before .before .before .before .before .before .before .before .before .before .before) .loop .inv .1) in
-    let b = (c .before .before) .loop2-test .taken in
-    omega arith
-
-add-k : tie.Need-add-k Inv-loop2 μ-loop2 Inv-loop3 μ-loop3 Inv-loop μ-loop
-add-k c =
-    let f = few ((c .before .before .before .before .before .before .before .before .before .before .before .before .before .before .before .before .before .before .before .before .before .before .before .before .before .before .before .before .before .before .before .before .before .before .before .before .before .before .before .before .before) .loop .inv .1) in
-    let b = (c .before .before) .loop2-test .taken in
-    omega arith
-
-loop2-less : tie.Need-loop2-less Inv-loop2 μ-loop2 Inv-loop3 μ-loop3 Inv-loop μ-loop
-loop2-less c =
-    let f = few ((c .before .before .before .before .before .before .before .before .before .before .before .before .before .before .before .before .before .before .before .before .before .before .before .before .before .before .before .before .before .before .before .before .before .before .before .before .before .before .before .before .before) .loop .inv .1) in
-    let b = (c .before .before) .loop2-test .taken in
-    omega arith
-
-loop2-again : tie.Need-loop2-again Inv-loop2 μ-loop2 Inv-loop3 μ-loop3 Inv-loop μ-loop
-loop2-again c =
-    let b = (c .before .before) .loop2-test .taken in
-    let l = (c .before .before .before) .loop2 in
-    (omega arith, change-turn _ (l .machine) _ (l .k) _ (l .inv .1) (c .wake .ensures))
-
+-- src/lib.rt:148:29
 accepted-requires-4 :
-    tie.Need-accepted-requires-4 Inv-loop2 μ-loop2 Inv-loop3 μ-loop3 Inv-loop μ-loop
-accepted-requires-4 c κs =
-    (small-enough ((c .before .before .before .before .before .before .before .before .before .before .before .before .before .before .before .before .before .before .before .before .before .before .before .before .before .before .before .before .before .before .before .before .before .before .before .before .before .before .before) .loop .inv .1) (at-most _ ((c .before .before .before .before .before .before .before .before .before .before .before .before .before .before .before .before .before .before .before .before .before .before .before .before .before .before .before .before .before .before .before .before .before .before .before .before .before .before .before .before .before .before .before .before) .pre .fits)), omega arith, omega arith, omega arith)
+    tie.Need-accepted-requires-4
+    Inv-older
+    μ-older
+    Inv-wake
+    μ-wake
+    Inv-search
+    μ-search
+    Inv-pass
+    μ-pass
+    Inv-shift
+    μ-shift
+    Inv-turns
+    μ-turns
+accepted-requires-4 c κs = ?
 
-loop-less-4 : tie.Need-loop-less-4 Inv-loop2 μ-loop2 Inv-loop3 μ-loop3 Inv-loop μ-loop
-loop-less-4 c =
-    let t = ((c .before .before .before .before .before .before .before .before .before .before .before .before .before .before .before .before .before .before .before .before .before .before .before .before .before .before .before .before .before .before .before .before .before .before .before .before .before .before .before) .loop-test .taken) in
-    omega arith
+-- src/lib.rt:52:5
+turns-less-6 :
+    tie.Need-turns-less-6
+    Inv-older
+    μ-older
+    Inv-wake
+    μ-wake
+    Inv-search
+    μ-search
+    Inv-pass
+    μ-pass
+    Inv-shift
+    μ-shift
+    Inv-turns
+    μ-turns
+turns-less-6 c = ?
 
-loop-again-4 : tie.Need-loop-again-4 Inv-loop2 μ-loop2 Inv-loop3 μ-loop3 Inv-loop μ-loop
-loop-again-4 c =
-    let l = (c .before .before) .loop2 in
-    let whole : l .k ≡ (c .before .before .before .before .before .before .before .before .before .before .before .before .before .before .before .before .before .before .before .before .before .before .before .before .before .before .before .before .before .before .before .before .before .before .before .before .before .before .before .before) .loop .machine .count = omega (arith, l .inv .0, (c .before) .loop2-test .left) in (
-      (c .before .before .before .before .before .before .before .before .before .before .before .before .before .before .before .before .before .before .before .before .before .before .before .before .before .before .before .before .before .before .before .before .before .before .before .before .before .before .before .before) .loop .inv .0,
-      goes-on ((c .before .before .before .before .before .before .before .before .before .before .before .before .before .before .before .before .before .before .before .before .before .before .before .before .before .before .before .before .before .before .before .before .before .before .before .before .before .before .before .before) .loop .inv .1) ((c .before .before .before .before .before .before .before .before .before .before .before .before .before .before .before .before .before .before .before .before .before .before .before .before .before .before .before .before .before .before .before .before .before .before .before .before .before .before .before) .loop-test .taken) ((c .before .before .before .before .before .before .before .before .before .before .before .before .before .before .before .before .before .before .before .before .before .before .before .before .before .before .before .before .before .before .before .before .before .before .before .before .before .before) .if1 .left) _ ((c .before .before .before .before .before .before .before .before .before .before .before .before .before .before .before .before .before .before .before .before .before .before .before .before .before .before .before .before .before .before .before .before .before .before .before .before .before) .record-at .ensures) _
-          (learn-way ((c .before .before .before .before .before .before .before .before .before .before .before .before .before .before .before .before .before .before .before .before .before .before .before .before .before .before .before .before .before .before .before .before .before .before .before .before .before .before .before .before) .loop .inv .1) _ _ ((c .before .before .before .before .before .before .before .before .before .before .before .before .before .before .before .before .before .before .before .before .before .before .before .before .before .before .before .before .before .before) .if3 .taken) ((c .before .before .before .before .before .before .before .before .before .before .before .before .before .before .before .before .before .before .before .before .before .before .before .before .before .before) .completes .ensures ((c .before .before .before .before .before .before .before .before .before .before .before .before .before .before .before .before .before .before .before .before .before .before .before .before .before) .if5 .taken)) (c .accepted4 .ensures) _ ((c .before .before .before .before .before .before .before .before .before .before .before .before .before .before .before .before .before .before .before .before .before .before .before .before) .outcome .ensures) ((c .before .before .before .before .before .before .before .before .before .before .before .before .before .before .before .before .before .before .before .before .before .before .before) .smooth .ensures ((c .before .before .before .before .before .before .before .before .before .before .before .before .before .before .before .before .before .before .before .before .before .before) .if6 .taken)) ((c .before .before .before .before .before .before .before .before .before .before .before .before .before .before .before .before .before .before .before .before) .if7 .left) ((c .before .before .before .before .before .before .before .before .before .before .before .before .before .before .before .before .before .before .before) .if8 .taken) _ _ _ _ _ _ _ _
-          ((c .before .before .before .before .before .before .before .before .before .before .before .before .before .before .before .before .before .before) .completed2 .ensures) ((c .before .before .before .before .before .before .before .before .before .before .before .before .before .before .before) .mapped .ensures) ((c .before .before .before .before .before .before .before .before .before .before .before .before) .map-where .ensures) ((c .before .before .before .before .before .before .before .before .before) .valid-where .ensures) ((c .before .before .before .before .before .before .before) .store-under2 .ensures) ((c .before .before .before .before .before) .store-value .ensures)
-          ((c .before .before .before) .take .ensures .0) ((c .before .before .before) .take .ensures .1) _ (wakes-all _ _ _ _ _ (l .inv .1) whole)),
-    )
+-- src/lib.rt:52:5
+turns-again-6 :
+    tie.Need-turns-again-6
+    Inv-older
+    μ-older
+    Inv-wake
+    μ-wake
+    Inv-search
+    μ-search
+    Inv-pass
+    μ-pass
+    Inv-shift
+    μ-shift
+    Inv-turns
+    μ-turns
+turns-again-6 c = ?
 
-retires-requires : tie.Need-retires-requires Inv-loop2 μ-loop2 Inv-loop3 μ-loop3 Inv-loop μ-loop
-retires-requires c κs =
-    search needs
+-- src/lib.rt:152:29
+enum-told-6 :
+    tie.Need-enum-told-6
+    Inv-older
+    μ-older
+    Inv-wake
+    μ-wake
+    Inv-search
+    μ-search
+    Inv-pass
+    μ-pass
+    Inv-shift
+    μ-shift
+    Inv-turns
+    μ-turns
+enum-told-6 c = ?
 
-store-requires : tie.Need-store-requires Inv-loop2 μ-loop2 Inv-loop3 μ-loop3 Inv-loop μ-loop
-store-requires c κs =
-    in-range-operation ((c .before .before .before .before .before .before .before .before .before .before .before .before .before .before .before .before .before .before .before) .loop .machine) _ (in-range ((c .before .before .before .before .before .before .before .before .before .before .before .before .before .before .before .before .before .before .before) .loop .inv .1)) ((c .before .before .before .before .before .before .before .before .before) .if3 .taken)
+-- src/lib.rt:152:29
+finished-requires :
+    tie.Need-finished-requires
+    Inv-older
+    μ-older
+    Inv-wake
+    μ-wake
+    Inv-search
+    μ-search
+    Inv-pass
+    μ-pass
+    Inv-shift
+    μ-shift
+    Inv-turns
+    μ-turns
+finished-requires c κs = ?
 
-look-up-requires-2 :
-    tie.Need-look-up-requires-2 Inv-loop2 μ-loop2 Inv-loop3 μ-loop3 Inv-loop μ-loop
-look-up-requires-2 c κs =
-    kept ((c .before .before .before .before .before .before .before .before .before .before .before .before .before .before .before .before .before .before .before .before .before .before .before .before) .loop .inv .1) .physical
+-- src/lib.rt:153:25
+mul-entries-6 :
+    tie.Need-mul-entries-6
+    Inv-older
+    μ-older
+    Inv-wake
+    μ-wake
+    Inv-search
+    μ-search
+    Inv-pass
+    μ-pass
+    Inv-shift
+    μ-shift
+    Inv-turns
+    μ-turns
+mul-entries-6 c = ?
 
-free-requires : tie.Need-free-requires Inv-loop2 μ-loop2 Inv-loop3 μ-loop3 Inv-loop μ-loop
-free-requires c κs =
-    kept ((c .before .before .before .before .before .before .before .before .before .before .before .before .before .before .before .before .before .before .before .before .before .before .before .before .before .before) .loop .inv .1) .registerlink
+-- src/lib.rt:153:25
+array-set-from-entries-6 :
+    tie.Need-array-set-from-entries-6
+    Inv-older
+    μ-older
+    Inv-wake
+    μ-wake
+    Inv-search
+    μ-search
+    Inv-pass
+    μ-pass
+    Inv-shift
+    μ-shift
+    Inv-turns
+    μ-turns
+array-set-from-entries-6 c = ?
 
-store-under-requires-3 :
-    tie.Need-store-under-requires-3 Inv-loop2 μ-loop2 Inv-loop3 μ-loop3 Inv-loop μ-loop
-store-under-requires-3 c κs =
-    kept ((c .before .before .before .before .before .before .before .before .before .before .before .before .before .before .before .before .before .before .before .before .before .before .before .before .before .before .before .before) .loop .inv .1) .physical
+-- src/lib.rt:154:25
+kept-after-requires :
+    tie.Need-kept-after-requires
+    Inv-older
+    μ-older
+    Inv-wake
+    μ-wake
+    Inv-search
+    μ-search
+    Inv-pass
+    μ-pass
+    Inv-shift
+    μ-shift
+    Inv-turns
+    μ-turns
+kept-after-requires c κs = ?
 
-free-requires-2 : tie.Need-free-requires-2 Inv-loop2 μ-loop2 Inv-loop3 μ-loop3 Inv-loop μ-loop
-free-requires-2 c κs =
-    kept ((c .before .before .before .before .before .before .before .before .before .before .before .before .before .before .before .before .before .before .before .before .before .before .before .before .before .before .before .before .before .before) .loop .inv .1) .namelink
+-- src/lib.rt:155:25
+fetch-after-requires :
+    tie.Need-fetch-after-requires
+    Inv-older
+    μ-older
+    Inv-wake
+    μ-wake
+    Inv-search
+    μ-search
+    Inv-pass
+    μ-pass
+    Inv-shift
+    μ-shift
+    Inv-turns
+    μ-turns
+fetch-after-requires c κs = ?
 
-sub-last : tie.Need-sub-last Inv-loop2 μ-loop2 Inv-loop3 μ-loop3 Inv-loop μ-loop
-sub-last c =
-    let b = (c .before .before .before .before .before .before .before .before .before .before .before .before .before .before .before .before .before .before .before .before .before) .if3 .taken in
-    omega arith
+-- src/lib.rt:156:74
+sub-accepted :
+    tie.Need-sub-accepted
+    Inv-older
+    μ-older
+    Inv-wake
+    μ-wake
+    Inv-search
+    μ-search
+    Inv-pass
+    μ-pass
+    Inv-shift
+    μ-shift
+    Inv-turns
+    μ-turns
+sub-accepted c = ?
 
-loop3-holds : tie.Need-loop3-holds Inv-loop2 μ-loop2 Inv-loop3 μ-loop3 Inv-loop μ-loop
-loop3-holds c =
-    (omega arith, moves-none _)
+-- src/lib.rt:156:73
+cast-accepted :
+    tie.Need-cast-accepted
+    Inv-older
+    μ-older
+    Inv-wake
+    μ-wake
+    Inv-search
+    μ-search
+    Inv-pass
+    μ-pass
+    Inv-shift
+    μ-shift
+    Inv-turns
+    μ-turns
+cast-accepted c = ?
 
-add-y : tie.Need-add-y Inv-loop2 μ-loop2 Inv-loop3 μ-loop3 Inv-loop μ-loop
-add-y c =
-    let f = few ((c .before .before .before .before .before .before .before .before .before .before .before .before .before .before .before .before .before .before .before .before .before .before .before .before .before .before .before .before .before .before .before .before .before) .loop .inv .1) in
-    let b = (c) .loop3-test .taken in
-    omega arith
-
-mul-y : tie.Need-mul-y Inv-loop2 μ-loop2 Inv-loop3 μ-loop3 Inv-loop μ-loop
-mul-y c =
-    let f = few ((c .before .before .before .before .before .before .before .before .before .before .before .before .before .before .before .before .before .before .before .before .before .before .before .before .before .before .before .before .before .before .before .before .before) .loop .inv .1) in
-    let b = (c) .loop3-test .taken in
-    omega arith
-
-element-copy-out-y :
-    tie.Need-element-copy-out-y Inv-loop2 μ-loop2 Inv-loop3 μ-loop3 Inv-loop μ-loop
-element-copy-out-y c =
-    let f = few ((c .before .before .before .before .before .before .before .before .before .before .before .before .before .before .before .before .before .before .before .before .before .before .before .before .before .before .before .before .before .before .before .before .before) .loop .inv .1) in
-    let b = (c) .loop3-test .taken in
-    omega arith
-
-mul-y-2 : tie.Need-mul-y-2 Inv-loop2 μ-loop2 Inv-loop3 μ-loop3 Inv-loop μ-loop
-mul-y-2 c =
-    let f = few ((c .before .before .before .before .before .before .before .before .before .before .before .before .before .before .before .before .before .before .before .before .before .before .before .before .before .before .before .before .before .before .before .before .before .before) .loop .inv .1) in
-    let b = (c .before) .loop3-test .taken in
-    omega arith
-
-element-set-from-y :
-    tie.Need-element-set-from-y Inv-loop2 μ-loop2 Inv-loop3 μ-loop3 Inv-loop μ-loop
-element-set-from-y c =
-    let f = few ((c .before .before .before .before .before .before .before .before .before .before .before .before .before .before .before .before .before .before .before .before .before .before .before .before .before .before .before .before .before .before .before .before .before .before) .loop .inv .1) in
-    let b = (c .before) .loop3-test .taken in
-    omega arith
-
-add-j : tie.Need-add-j Inv-loop2 μ-loop2 Inv-loop3 μ-loop3 Inv-loop μ-loop
-add-j c =
-    let f = few ((c .before .before .before .before .before .before .before .before .before .before .before .before .before .before .before .before .before .before .before .before .before .before .before .before .before .before .before .before .before .before .before .before .before .before) .loop .inv .1) in
-    let b = (c .before) .loop3-test .taken in
-    omega arith
-
-loop3-less : tie.Need-loop3-less Inv-loop2 μ-loop2 Inv-loop3 μ-loop3 Inv-loop μ-loop
-loop3-less c =
-    let f = few ((c .before .before .before .before .before .before .before .before .before .before .before .before .before .before .before .before .before .before .before .before .before .before .before .before .before .before .before .before .before .before .before .before .before .before) .loop .inv .1) in
-    let b = (c .before) .loop3-test .taken in
-    omega arith
-
-loop3-again : tie.Need-loop3-again Inv-loop2 μ-loop2 Inv-loop3 μ-loop3 Inv-loop μ-loop
-loop3-again c =
-    let b = (c .before) .loop3-test .taken in
-    let l = (c .before .before) .loop3 in
-    let long = kept ((c .before .before .before .before .before .before .before .before .before .before .before .before .before .before .before .before .before .before .before .before .before .before .before .before .before .before .before .before .before .before .before .before .before .before) .loop .inv .1) .entries in
-    let f = few ((c .before .before .before .before .before .before .before .before .before .before .before .before .before .before .before .before .before .before .before .before .before .before .before .before .before .before .before .before .before .before .before .before .before .before) .loop .inv .1) in
-    (omega arith, shift-turn _ (l .machine) (l .j) (omega arith) (l .inv .1))
-
-empty-requires : tie.Need-empty-requires Inv-loop2 μ-loop2 Inv-loop3 μ-loop3 Inv-loop μ-loop
-empty-requires c κs =
-    search needs
-
-mul-empty : tie.Need-mul-empty Inv-loop2 μ-loop2 Inv-loop3 μ-loop3 Inv-loop μ-loop
-mul-empty c =
-    let f = few ((c .before .before .before .before .before .before .before .before .before .before .before .before .before .before .before .before .before .before .before .before .before .before .before .before .before .before .before .before .before .before .before .before .before .before) .loop .inv .1) in
-    let b = (c .before .before .before .before .before .before .before .before .before .before .before .before .before .before .before .before .before .before .before .before .before .before .before .before) .if3 .taken in
-    omega arith
-
-element-set-from-empty :
-    tie.Need-element-set-from-empty Inv-loop2 μ-loop2 Inv-loop3 μ-loop3 Inv-loop μ-loop
-element-set-from-empty c =
-    let f = few ((c .before .before .before .before .before .before .before .before .before .before .before .before .before .before .before .before .before .before .before .before .before .before .before .before .before .before .before .before .before .before .before .before .before .before) .loop .inv .1) in
-    let b = (c .before .before .before .before .before .before .before .before .before .before .before .before .before .before .before .before .before .before .before .before .before .before .before .before) .if3 .taken in
-    omega arith
-
-sub-machine : tie.Need-sub-machine Inv-loop2 μ-loop2 Inv-loop3 μ-loop3 Inv-loop μ-loop
-sub-machine c =
-    omega (arith, ap (λ (m : Machine). m .count) ((c .before .before) .loop3 .inv .1), (c .before .before .before .before .before .before .before .before .before .before .before .before .before .before .before .before .before .before .before .before .before .before .before .before) .if3 .taken)
-
+-- src/lib.rt:156:29
 accepted-requires-5 :
-    tie.Need-accepted-requires-5 Inv-loop2 μ-loop2 Inv-loop3 μ-loop3 Inv-loop μ-loop
-accepted-requires-5 c κs =
-    (small-enough ((c .before .before .before .before .before .before .before .before .before .before .before .before .before .before .before .before .before .before .before .before .before .before .before .before .before .before .before .before .before .before .before .before .before .before) .loop .inv .1) (at-most _ ((c .before .before .before .before .before .before .before .before .before .before .before .before .before .before .before .before .before .before .before .before .before .before .before .before .before .before .before .before .before .before .before .before .before .before .before .before .before .before .before) .pre .fits)), omega arith, omega arith, omega arith)
+    tie.Need-accepted-requires-5
+    Inv-older
+    μ-older
+    Inv-wake
+    μ-wake
+    Inv-search
+    μ-search
+    Inv-pass
+    μ-pass
+    Inv-shift
+    μ-shift
+    Inv-turns
+    μ-turns
+accepted-requires-5 c κs = ?
 
-loop-less-5 : tie.Need-loop-less-5 Inv-loop2 μ-loop2 Inv-loop3 μ-loop3 Inv-loop μ-loop
-loop-less-5 c =
-    let t = ((c .before .before .before .before .before .before .before .before .before .before .before .before .before .before .before .before .before .before .before .before .before .before .before .before .before .before .before .before .before .before .before .before .before .before) .loop-test .taken) in
-    omega arith
+-- src/lib.rt:52:5
+turns-less-7 :
+    tie.Need-turns-less-7
+    Inv-older
+    μ-older
+    Inv-wake
+    μ-wake
+    Inv-search
+    μ-search
+    Inv-pass
+    μ-pass
+    Inv-shift
+    μ-shift
+    Inv-turns
+    μ-turns
+turns-less-7 c = ?
 
-loop-again-5 : tie.Need-loop-again-5 Inv-loop2 μ-loop2 Inv-loop3 μ-loop3 Inv-loop μ-loop
-loop-again-5 c =
-    let m = (c .before .before .before .before .before .before .before .before .before .before .before .before .before .before .before .before .before .before .before .before .before .before .before .before .before .before .before .before .before .before .before .before .before .before .before) .loop .machine in
-    let l = (c .before .before .before) .loop3 in
-    let t = ((c .before .before .before .before .before .before .before .before .before .before .before .before .before .before .before .before .before .before .before) .retires .ensures ((c .before .before .before .before .before .before .before .before .before .before .before .before .before .before .before .before .before .before) .if9 .taken)) in
-    let some : 0 < m .count = let b = ((c .before .before .before .before .before .before .before .before .before .before .before .before .before .before .before .before .before .before .before .before .before .before .before .before .before) .if3 .taken) in omega arith in
-    let at = ap (entryAt m) (t .oldest) in
-    let end : l .j ≡ m .count - 1 = omega (arith, l .inv .0, (c .before .before) .loop3-test .left) in (
-      (c .before .before .before .before .before .before .before .before .before .before .before .before .before .before .before) .store .kept .1 .0 ∙ (c .before .before .before .before .before .before .before .before .before .before .before .before .before .before .before .before .before .before .before .before .before .before .before .before .before .before .before .before .before .before .before .before .before .before .before) .loop .inv .0,
-      goes-on ((c .before .before .before .before .before .before .before .before .before .before .before .before .before .before .before .before .before .before .before .before .before .before .before .before .before .before .before .before .before .before .before .before .before .before .before) .loop .inv .1) ((c .before .before .before .before .before .before .before .before .before .before .before .before .before .before .before .before .before .before .before .before .before .before .before .before .before .before .before .before .before .before .before .before .before .before) .loop-test .taken) ((c .before .before .before .before .before .before .before .before .before .before .before .before .before .before .before .before .before .before .before .before .before .before .before .before .before .before .before .before .before .before .before .before .before) .if1 .left) _ ((c .before .before .before .before .before .before .before .before .before .before .before .before .before .before .before .before .before .before .before .before .before .before .before .before .before .before .before .before .before .before .before .before) .record-at .ensures) _
-          (commit-way ((c .before .before .before .before .before .before .before .before .before .before .before .before .before .before .before .before .before .before .before .before .before .before .before .before .before .before .before .before .before .before .before .before .before .before .before) .loop .inv .1) _ _ some _ at t (c .accepted5 .ensures) _ ((c .before .before .before .before .before .before .before .before .before .before .before .before .before .before .before) .store .ensures) _
-          (retired-here m (l .machine) _ (m .count - 1) _ _ _ _ _ _ _ some (roomy ((c .before .before .before .before .before .before .before .before .before .before .before .before .before .before .before .before .before .before .before .before .before .before .before .before .before .before .before .before .before .before .before .before .before .before .before) .loop .inv .1)) at refl ((c .before .before .before .before .before .before .before .before .before .before) .look-up2 .ensures) ((c .before .before .before .before .before .before .before .before) .free .ensures .0) ((c .before .before .before .before .before .before .before .before) .free .ensures .1)
-          ((c .before .before .before .before .before .before) .store-under3 .ensures) ((c .before .before .before .before) .free2 .ensures .0) ((c .before .before .before .before) .free2 .ensures .1) ((c .before) .empty .ensures) (moves-all _ _ _ _ (l .inv .1) end))),
-    )
+-- src/lib.rt:52:5
+turns-again-7 :
+    tie.Need-turns-again-7
+    Inv-older
+    μ-older
+    Inv-wake
+    μ-wake
+    Inv-search
+    μ-search
+    Inv-pass
+    μ-pass
+    Inv-shift
+    μ-shift
+    Inv-turns
+    μ-turns
+turns-again-7 c = ?
 
-event-requires : tie.Need-event-requires Inv-loop2 μ-loop2 Inv-loop3 μ-loop3 Inv-loop μ-loop
-event-requires c κs =
-    (is-lent ((c .before .before .before .before .before .before .before .before .before .before .before) .loop .inv .1), small-enough ((c .before .before .before .before .before .before .before .before .before .before .before) .loop .inv .1) (at-most _ ((c .before .before .before .before .before .before .before .before .before .before .before .before .before .before .before .before) .pre .fits)))
+-- src/lib.rt:160:29
+enum-told-7 :
+    tie.Need-enum-told-7
+    Inv-older
+    μ-older
+    Inv-wake
+    μ-wake
+    Inv-search
+    μ-search
+    Inv-pass
+    μ-pass
+    Inv-shift
+    μ-shift
+    Inv-turns
+    μ-turns
+enum-told-7 c = ?
 
-loop-less-6 : tie.Need-loop-less-6 Inv-loop2 μ-loop2 Inv-loop3 μ-loop3 Inv-loop μ-loop
-loop-less-6 c =
-    let t = ((c .before .before .before .before .before .before .before .before .before .before .before .before .before .before .before) .loop-test .taken) in
-    omega arith
+-- src/lib.rt:161:29
+finished-requires-2 :
+    tie.Need-finished-requires-2
+    Inv-older
+    μ-older
+    Inv-wake
+    μ-wake
+    Inv-search
+    μ-search
+    Inv-pass
+    μ-pass
+    Inv-shift
+    μ-shift
+    Inv-turns
+    μ-turns
+finished-requires-2 c κs = ?
 
-loop-again-6 : tie.Need-loop-again-6 Inv-loop2 μ-loop2 Inv-loop3 μ-loop3 Inv-loop μ-loop
-loop-again-6 c = (
-  (c .before .before .before .before) .event .kept .1 .1 .0 ∙ (c .before .before .before .before .before .before .before .before .before .before .before .before .before .before .before .before) .loop .inv .0,
-  goes-on ((c .before .before .before .before .before .before .before .before .before .before .before .before .before .before .before .before) .loop .inv .1) ((c .before .before .before .before .before .before .before .before .before .before .before .before .before .before .before) .loop-test .taken) ((c .before .before .before .before .before .before .before .before .before .before .before .before .before .before) .if1 .left) _ ((c .before .before .before .before .before .before .before .before .before .before .before .before .before) .record-at .ensures) _ ((c .before .before .before .before) .event .ensures),
-)
+-- src/lib.rt:162:25
+mul-entries-7 :
+    tie.Need-mul-entries-7
+    Inv-older
+    μ-older
+    Inv-wake
+    μ-wake
+    Inv-search
+    μ-search
+    Inv-pass
+    μ-pass
+    Inv-shift
+    μ-shift
+    Inv-turns
+    μ-turns
+mul-entries-7 c = ?
 
-same-length : tie.Need-same-length Inv-loop2 μ-loop2 Inv-loop3 μ-loop3 Inv-loop μ-loop
-same-length c =
-    (c .before) .loop .inv .0
+-- src/lib.rt:162:25
+array-set-from-entries-7 :
+    tie.Need-array-set-from-entries-7
+    Inv-older
+    μ-older
+    Inv-wake
+    μ-wake
+    Inv-search
+    μ-search
+    Inv-pass
+    μ-pass
+    Inv-shift
+    μ-shift
+    Inv-turns
+    μ-turns
+array-set-from-entries-7 c = ?
 
-returns : tie.Need-returns Inv-loop2 μ-loop2 Inv-loop3 μ-loop3 Inv-loop μ-loop
-returns c =
-    ends ((c .before) .loop .inv .1) (c .loop-test .left)
+-- src/lib.rt:163:25
+learn-requires :
+    tie.Need-learn-requires
+    Inv-older
+    μ-older
+    Inv-wake
+    μ-wake
+    Inv-search
+    μ-search
+    Inv-pass
+    μ-pass
+    Inv-shift
+    μ-shift
+    Inv-turns
+    μ-turns
+learn-requires c κs = ?
 
-same-length-2 : tie.Need-same-length-2 Inv-loop2 μ-loop2 Inv-loop3 μ-loop3 Inv-loop μ-loop
-same-length-2 c =
-    (c .before .before) .loop .inv .0
+-- src/lib.rt:172:25
+store-value-requires :
+    tie.Need-store-value-requires
+    Inv-older
+    μ-older
+    Inv-wake
+    μ-wake
+    Inv-search
+    μ-search
+    Inv-pass
+    μ-pass
+    Inv-shift
+    μ-shift
+    Inv-turns
+    μ-turns
+store-value-requires c κs = ?
 
-returns-2 : tie.Need-returns-2 Inv-loop2 μ-loop2 Inv-loop3 μ-loop3 Inv-loop μ-loop
-returns-2 c =
-    chain-ends ((c .before .before) .loop .inv .1) (c .if1 .taken)
+-- src/lib.rt:173:25
+take-requires :
+    tie.Need-take-requires
+    Inv-older
+    μ-older
+    Inv-wake
+    μ-wake
+    Inv-search
+    μ-search
+    Inv-pass
+    μ-pass
+    Inv-shift
+    μ-shift
+    Inv-turns
+    μ-turns
+take-requires c κs = ?
+
+-- src/lib.rt:175:25
+wake-holds :
+    tie.Need-wake-holds
+    Inv-older
+    μ-older
+    Inv-wake
+    μ-wake
+    Inv-search
+    μ-search
+    Inv-pass
+    μ-pass
+    Inv-shift
+    μ-shift
+    Inv-turns
+    μ-turns
+wake-holds c = ?
+
+-- src/lib.rt:176:37
+mul-x-3 :
+    tie.Need-mul-x-3
+    Inv-older
+    μ-older
+    Inv-wake
+    μ-wake
+    Inv-search
+    μ-search
+    Inv-pass
+    μ-pass
+    Inv-shift
+    μ-shift
+    Inv-turns
+    μ-turns
+mul-x-3 c = ?
+
+-- src/lib.rt:176:37
+array-copy-out-x-3 :
+    tie.Need-array-copy-out-x-3
+    Inv-older
+    μ-older
+    Inv-wake
+    μ-wake
+    Inv-search
+    μ-search
+    Inv-pass
+    μ-pass
+    Inv-shift
+    μ-shift
+    Inv-turns
+    μ-turns
+array-copy-out-x-3 c = ?
+
+-- src/lib.rt:177:32
+is-on-requires :
+    tie.Need-is-on-requires
+    Inv-older
+    μ-older
+    Inv-wake
+    μ-wake
+    Inv-search
+    μ-search
+    Inv-pass
+    μ-pass
+    Inv-shift
+    μ-shift
+    Inv-turns
+    μ-turns
+is-on-requires c κs = ?
+
+-- src/lib.rt:178:37
+wake-requires :
+    tie.Need-wake-requires
+    Inv-older
+    μ-older
+    Inv-wake
+    μ-wake
+    Inv-search
+    μ-search
+    Inv-pass
+    μ-pass
+    Inv-shift
+    μ-shift
+    Inv-turns
+    μ-turns
+wake-requires c κs = ?
+
+-- src/lib.rt:179:33
+mul-entries-8 :
+    tie.Need-mul-entries-8
+    Inv-older
+    μ-older
+    Inv-wake
+    μ-wake
+    Inv-search
+    μ-search
+    Inv-pass
+    μ-pass
+    Inv-shift
+    μ-shift
+    Inv-turns
+    μ-turns
+mul-entries-8 c = ?
+
+-- src/lib.rt:179:33
+array-set-from-entries-8 :
+    tie.Need-array-set-from-entries-8
+    Inv-older
+    μ-older
+    Inv-wake
+    μ-wake
+    Inv-search
+    μ-search
+    Inv-pass
+    μ-pass
+    Inv-shift
+    μ-shift
+    Inv-turns
+    μ-turns
+array-set-from-entries-8 c = ?
+
+-- src/lib.rt:181:29
+add-k-2 :
+    tie.Need-add-k-2
+    Inv-older
+    μ-older
+    Inv-wake
+    μ-wake
+    Inv-search
+    μ-search
+    Inv-pass
+    μ-pass
+    Inv-shift
+    μ-shift
+    Inv-turns
+    μ-turns
+add-k-2 c = ?
+
+-- src/lib.rt:175:25
+wake-less :
+    tie.Need-wake-less
+    Inv-older
+    μ-older
+    Inv-wake
+    μ-wake
+    Inv-search
+    μ-search
+    Inv-pass
+    μ-pass
+    Inv-shift
+    μ-shift
+    Inv-turns
+    μ-turns
+wake-less c = ?
+
+-- src/lib.rt:175:25
+wake-again :
+    tie.Need-wake-again
+    Inv-older
+    μ-older
+    Inv-wake
+    μ-wake
+    Inv-search
+    μ-search
+    Inv-pass
+    μ-pass
+    Inv-shift
+    μ-shift
+    Inv-turns
+    μ-turns
+wake-again c = ?
+
+-- src/lib.rt:183:25
+kept-after-requires-2 :
+    tie.Need-kept-after-requires-2
+    Inv-older
+    μ-older
+    Inv-wake
+    μ-wake
+    Inv-search
+    μ-search
+    Inv-pass
+    μ-pass
+    Inv-shift
+    μ-shift
+    Inv-turns
+    μ-turns
+kept-after-requires-2 c κs = ?
+
+-- src/lib.rt:184:25
+fetch-after-requires-2 :
+    tie.Need-fetch-after-requires-2
+    Inv-older
+    μ-older
+    Inv-wake
+    μ-wake
+    Inv-search
+    μ-search
+    Inv-pass
+    μ-pass
+    Inv-shift
+    μ-shift
+    Inv-turns
+    μ-turns
+fetch-after-requires-2 c κs = ?
+
+-- src/lib.rt:185:73
+sub-accepted-2 :
+    tie.Need-sub-accepted-2
+    Inv-older
+    μ-older
+    Inv-wake
+    μ-wake
+    Inv-search
+    μ-search
+    Inv-pass
+    μ-pass
+    Inv-shift
+    μ-shift
+    Inv-turns
+    μ-turns
+sub-accepted-2 c = ?
+
+-- src/lib.rt:185:72
+cast-accepted-2 :
+    tie.Need-cast-accepted-2
+    Inv-older
+    μ-older
+    Inv-wake
+    μ-wake
+    Inv-search
+    μ-search
+    Inv-pass
+    μ-pass
+    Inv-shift
+    μ-shift
+    Inv-turns
+    μ-turns
+cast-accepted-2 c = ?
+
+-- src/lib.rt:185:29
+accepted-requires-6 :
+    tie.Need-accepted-requires-6
+    Inv-older
+    μ-older
+    Inv-wake
+    μ-wake
+    Inv-search
+    μ-search
+    Inv-pass
+    μ-pass
+    Inv-shift
+    μ-shift
+    Inv-turns
+    μ-turns
+accepted-requires-6 c κs = ?
+
+-- src/lib.rt:52:5
+turns-less-8 :
+    tie.Need-turns-less-8
+    Inv-older
+    μ-older
+    Inv-wake
+    μ-wake
+    Inv-search
+    μ-search
+    Inv-pass
+    μ-pass
+    Inv-shift
+    μ-shift
+    Inv-turns
+    μ-turns
+turns-less-8 c = ?
+
+-- src/lib.rt:52:5
+turns-again-8 :
+    tie.Need-turns-again-8
+    Inv-older
+    μ-older
+    Inv-wake
+    μ-wake
+    Inv-search
+    μ-search
+    Inv-pass
+    μ-pass
+    Inv-shift
+    μ-shift
+    Inv-turns
+    μ-turns
+turns-again-8 c = ?
+
+-- src/lib.rt:189:37
+enum-told-8 :
+    tie.Need-enum-told-8
+    Inv-older
+    μ-older
+    Inv-wake
+    μ-wake
+    Inv-search
+    μ-search
+    Inv-pass
+    μ-pass
+    Inv-shift
+    μ-shift
+    Inv-turns
+    μ-turns
+enum-told-8 c = ?
+
+-- src/lib.rt:189:37
+sub-k :
+    tie.Need-sub-k
+    Inv-older
+    μ-older
+    Inv-wake
+    μ-wake
+    Inv-search
+    μ-search
+    Inv-pass
+    μ-pass
+    Inv-shift
+    μ-shift
+    Inv-turns
+    μ-turns
+sub-k c = ?
+
+-- src/lib.rt:190:29
+search-holds :
+    tie.Need-search-holds
+    Inv-older
+    μ-older
+    Inv-wake
+    μ-wake
+    Inv-search
+    μ-search
+    Inv-pass
+    μ-pass
+    Inv-shift
+    μ-shift
+    Inv-turns
+    μ-turns
+search-holds c = ?
+
+-- src/lib.rt:194:37
+mul-x-4 :
+    tie.Need-mul-x-4
+    Inv-older
+    μ-older
+    Inv-wake
+    μ-wake
+    Inv-search
+    μ-search
+    Inv-pass
+    μ-pass
+    Inv-shift
+    μ-shift
+    Inv-turns
+    μ-turns
+mul-x-4 c = ?
+
+-- src/lib.rt:194:37
+array-copy-out-x-4 :
+    tie.Need-array-copy-out-x-4
+    Inv-older
+    μ-older
+    Inv-wake
+    μ-wake
+    Inv-search
+    μ-search
+    Inv-pass
+    μ-pass
+    Inv-shift
+    μ-shift
+    Inv-turns
+    μ-turns
+array-copy-out-x-4 c = ?
+
+-- src/lib.rt:195:32
+held-requires :
+    tie.Need-held-requires
+    Inv-older
+    μ-older
+    Inv-wake
+    μ-wake
+    Inv-search
+    μ-search
+    Inv-pass
+    μ-pass
+    Inv-shift
+    μ-shift
+    Inv-turns
+    μ-turns
+held-requires c κs = ?
+
+-- src/lib.rt:198:29
+sub-k-2 :
+    tie.Need-sub-k-2
+    Inv-older
+    μ-older
+    Inv-wake
+    μ-wake
+    Inv-search
+    μ-search
+    Inv-pass
+    μ-pass
+    Inv-shift
+    μ-shift
+    Inv-turns
+    μ-turns
+sub-k-2 c = ?
+
+-- src/lib.rt:190:29
+search-less :
+    tie.Need-search-less
+    Inv-older
+    μ-older
+    Inv-wake
+    μ-wake
+    Inv-search
+    μ-search
+    Inv-pass
+    μ-pass
+    Inv-shift
+    μ-shift
+    Inv-turns
+    μ-turns
+search-less c = ?
+
+-- src/lib.rt:190:29
+search-again :
+    tie.Need-search-again
+    Inv-older
+    μ-older
+    Inv-wake
+    μ-wake
+    Inv-search
+    μ-search
+    Inv-pass
+    μ-pass
+    Inv-shift
+    μ-shift
+    Inv-turns
+    μ-turns
+search-again c = ?
+
+-- src/lib.rt:201:33
+refused-requires-2 :
+    tie.Need-refused-requires-2
+    Inv-older
+    μ-older
+    Inv-wake
+    μ-wake
+    Inv-search
+    μ-search
+    Inv-pass
+    μ-pass
+    Inv-shift
+    μ-shift
+    Inv-turns
+    μ-turns
+refused-requires-2 c κs = ?
+
+-- src/lib.rt:52:5
+turns-less-9 :
+    tie.Need-turns-less-9
+    Inv-older
+    μ-older
+    Inv-wake
+    μ-wake
+    Inv-search
+    μ-search
+    Inv-pass
+    μ-pass
+    Inv-shift
+    μ-shift
+    Inv-turns
+    μ-turns
+turns-less-9 c = ?
+
+-- src/lib.rt:52:5
+turns-again-9 :
+    tie.Need-turns-again-9
+    Inv-older
+    μ-older
+    Inv-wake
+    μ-wake
+    Inv-search
+    μ-search
+    Inv-pass
+    μ-pass
+    Inv-shift
+    μ-shift
+    Inv-turns
+    μ-turns
+turns-again-9 c = ?
+
+-- src/lib.rt:204:41
+mul-owner :
+    tie.Need-mul-owner
+    Inv-older
+    μ-older
+    Inv-wake
+    μ-wake
+    Inv-search
+    μ-search
+    Inv-pass
+    μ-pass
+    Inv-shift
+    μ-shift
+    Inv-turns
+    μ-turns
+mul-owner c = ?
+
+-- src/lib.rt:204:41
+array-copy-out-owner :
+    tie.Need-array-copy-out-owner
+    Inv-older
+    μ-older
+    Inv-wake
+    μ-wake
+    Inv-search
+    μ-search
+    Inv-pass
+    μ-pass
+    Inv-shift
+    μ-shift
+    Inv-turns
+    μ-turns
+array-copy-out-owner c = ?
+
+-- src/lib.rt:205:33
+held-requires-2 :
+    tie.Need-held-requires-2
+    Inv-older
+    μ-older
+    Inv-wake
+    μ-wake
+    Inv-search
+    μ-search
+    Inv-pass
+    μ-pass
+    Inv-shift
+    μ-shift
+    Inv-turns
+    μ-turns
+held-requires-2 c κs = ?
+
+-- src/lib.rt:206:33
+waiting-requires :
+    tie.Need-waiting-requires
+    Inv-older
+    μ-older
+    Inv-wake
+    μ-wake
+    Inv-search
+    μ-search
+    Inv-pass
+    μ-pass
+    Inv-shift
+    μ-shift
+    Inv-turns
+    μ-turns
+waiting-requires c κs = ?
+
+-- src/lib.rt:207:29
+mul-entries-9 :
+    tie.Need-mul-entries-9
+    Inv-older
+    μ-older
+    Inv-wake
+    μ-wake
+    Inv-search
+    μ-search
+    Inv-pass
+    μ-pass
+    Inv-shift
+    μ-shift
+    Inv-turns
+    μ-turns
+mul-entries-9 c = ?
+
+-- src/lib.rt:207:29
+array-set-from-entries-9 :
+    tie.Need-array-set-from-entries-9
+    Inv-older
+    μ-older
+    Inv-wake
+    μ-wake
+    Inv-search
+    μ-search
+    Inv-pass
+    μ-pass
+    Inv-shift
+    μ-shift
+    Inv-turns
+    μ-turns
+array-set-from-entries-9 c = ?
+
+-- src/lib.rt:208:29
+learn-requires-2 :
+    tie.Need-learn-requires-2
+    Inv-older
+    μ-older
+    Inv-wake
+    μ-wake
+    Inv-search
+    μ-search
+    Inv-pass
+    μ-pass
+    Inv-shift
+    μ-shift
+    Inv-turns
+    μ-turns
+learn-requires-2 c κs = ?
+
+-- src/lib.rt:217:33
+finished-requires-3 :
+    tie.Need-finished-requires-3
+    Inv-older
+    μ-older
+    Inv-wake
+    μ-wake
+    Inv-search
+    μ-search
+    Inv-pass
+    μ-pass
+    Inv-shift
+    μ-shift
+    Inv-turns
+    μ-turns
+finished-requires-3 c κs = ?
+
+-- src/lib.rt:218:29
+mul-entries-10 :
+    tie.Need-mul-entries-10
+    Inv-older
+    μ-older
+    Inv-wake
+    μ-wake
+    Inv-search
+    μ-search
+    Inv-pass
+    μ-pass
+    Inv-shift
+    μ-shift
+    Inv-turns
+    μ-turns
+mul-entries-10 c = ?
+
+-- src/lib.rt:218:29
+array-set-from-entries-10 :
+    tie.Need-array-set-from-entries-10
+    Inv-older
+    μ-older
+    Inv-wake
+    μ-wake
+    Inv-search
+    μ-search
+    Inv-pass
+    μ-pass
+    Inv-shift
+    μ-shift
+    Inv-turns
+    μ-turns
+array-set-from-entries-10 c = ?
+
+-- src/lib.rt:219:29
+learn-requires-3 :
+    tie.Need-learn-requires-3
+    Inv-older
+    μ-older
+    Inv-wake
+    μ-wake
+    Inv-search
+    μ-search
+    Inv-pass
+    μ-pass
+    Inv-shift
+    μ-shift
+    Inv-turns
+    μ-turns
+learn-requires-3 c κs = ?
+
+-- src/lib.rt:228:29
+store-value-requires-2 :
+    tie.Need-store-value-requires-2
+    Inv-older
+    μ-older
+    Inv-wake
+    μ-wake
+    Inv-search
+    μ-search
+    Inv-pass
+    μ-pass
+    Inv-shift
+    μ-shift
+    Inv-turns
+    μ-turns
+store-value-requires-2 c κs = ?
+
+-- src/lib.rt:230:29
+pass-holds :
+    tie.Need-pass-holds
+    Inv-older
+    μ-older
+    Inv-wake
+    μ-wake
+    Inv-search
+    μ-search
+    Inv-pass
+    μ-pass
+    Inv-shift
+    μ-shift
+    Inv-turns
+    μ-turns
+pass-holds c = ?
+
+-- src/lib.rt:231:41
+mul-x-5 :
+    tie.Need-mul-x-5
+    Inv-older
+    μ-older
+    Inv-wake
+    μ-wake
+    Inv-search
+    μ-search
+    Inv-pass
+    μ-pass
+    Inv-shift
+    μ-shift
+    Inv-turns
+    μ-turns
+mul-x-5 c = ?
+
+-- src/lib.rt:231:41
+array-copy-out-x-5 :
+    tie.Need-array-copy-out-x-5
+    Inv-older
+    μ-older
+    Inv-wake
+    μ-wake
+    Inv-search
+    μ-search
+    Inv-pass
+    μ-pass
+    Inv-shift
+    μ-shift
+    Inv-turns
+    μ-turns
+array-copy-out-x-5 c = ?
+
+-- src/lib.rt:232:37
+passed-on-requires :
+    tie.Need-passed-on-requires
+    Inv-older
+    μ-older
+    Inv-wake
+    μ-wake
+    Inv-search
+    μ-search
+    Inv-pass
+    μ-pass
+    Inv-shift
+    μ-shift
+    Inv-turns
+    μ-turns
+passed-on-requires c κs = ?
+
+-- src/lib.rt:233:33
+mul-entries-11 :
+    tie.Need-mul-entries-11
+    Inv-older
+    μ-older
+    Inv-wake
+    μ-wake
+    Inv-search
+    μ-search
+    Inv-pass
+    μ-pass
+    Inv-shift
+    μ-shift
+    Inv-turns
+    μ-turns
+mul-entries-11 c = ?
+
+-- src/lib.rt:233:33
+array-set-from-entries-11 :
+    tie.Need-array-set-from-entries-11
+    Inv-older
+    μ-older
+    Inv-wake
+    μ-wake
+    Inv-search
+    μ-search
+    Inv-pass
+    μ-pass
+    Inv-shift
+    μ-shift
+    Inv-turns
+    μ-turns
+array-set-from-entries-11 c = ?
+
+-- src/lib.rt:234:33
+add-j :
+    tie.Need-add-j
+    Inv-older
+    μ-older
+    Inv-wake
+    μ-wake
+    Inv-search
+    μ-search
+    Inv-pass
+    μ-pass
+    Inv-shift
+    μ-shift
+    Inv-turns
+    μ-turns
+add-j c = ?
+
+-- src/lib.rt:230:29
+pass-less :
+    tie.Need-pass-less
+    Inv-older
+    μ-older
+    Inv-wake
+    μ-wake
+    Inv-search
+    μ-search
+    Inv-pass
+    μ-pass
+    Inv-shift
+    μ-shift
+    Inv-turns
+    μ-turns
+pass-less c = ?
+
+-- src/lib.rt:230:29
+pass-again :
+    tie.Need-pass-again
+    Inv-older
+    μ-older
+    Inv-wake
+    μ-wake
+    Inv-search
+    μ-search
+    Inv-pass
+    μ-pass
+    Inv-shift
+    μ-shift
+    Inv-turns
+    μ-turns
+pass-again c = ?
+
+-- src/lib.rt:236:29
+kept-after-requires-3 :
+    tie.Need-kept-after-requires-3
+    Inv-older
+    μ-older
+    Inv-wake
+    μ-wake
+    Inv-search
+    μ-search
+    Inv-pass
+    μ-pass
+    Inv-shift
+    μ-shift
+    Inv-turns
+    μ-turns
+kept-after-requires-3 c κs = ?
+
+-- src/lib.rt:237:29
+fetch-after-requires-3 :
+    tie.Need-fetch-after-requires-3
+    Inv-older
+    μ-older
+    Inv-wake
+    μ-wake
+    Inv-search
+    μ-search
+    Inv-pass
+    μ-pass
+    Inv-shift
+    μ-shift
+    Inv-turns
+    μ-turns
+fetch-after-requires-3 c κs = ?
+
+-- src/lib.rt:238:76
+sub-accepted-3 :
+    tie.Need-sub-accepted-3
+    Inv-older
+    μ-older
+    Inv-wake
+    μ-wake
+    Inv-search
+    μ-search
+    Inv-pass
+    μ-pass
+    Inv-shift
+    μ-shift
+    Inv-turns
+    μ-turns
+sub-accepted-3 c = ?
+
+-- src/lib.rt:238:75
+cast-accepted-3 :
+    tie.Need-cast-accepted-3
+    Inv-older
+    μ-older
+    Inv-wake
+    μ-wake
+    Inv-search
+    μ-search
+    Inv-pass
+    μ-pass
+    Inv-shift
+    μ-shift
+    Inv-turns
+    μ-turns
+cast-accepted-3 c = ?
+
+-- src/lib.rt:238:33
+accepted-requires-7 :
+    tie.Need-accepted-requires-7
+    Inv-older
+    μ-older
+    Inv-wake
+    μ-wake
+    Inv-search
+    μ-search
+    Inv-pass
+    μ-pass
+    Inv-shift
+    μ-shift
+    Inv-turns
+    μ-turns
+accepted-requires-7 c κs = ?
+
+-- src/lib.rt:52:5
+turns-less-10 :
+    tie.Need-turns-less-10
+    Inv-older
+    μ-older
+    Inv-wake
+    μ-wake
+    Inv-search
+    μ-search
+    Inv-pass
+    μ-pass
+    Inv-shift
+    μ-shift
+    Inv-turns
+    μ-turns
+turns-less-10 c = ?
+
+-- src/lib.rt:52:5
+turns-again-10 :
+    tie.Need-turns-again-10
+    Inv-older
+    μ-older
+    Inv-wake
+    μ-wake
+    Inv-search
+    μ-search
+    Inv-pass
+    μ-pass
+    Inv-shift
+    μ-shift
+    Inv-turns
+    μ-turns
+turns-again-10 c = ?
+
+-- src/lib.rt:245:21
+enum-told-9 :
+    tie.Need-enum-told-9
+    Inv-older
+    μ-older
+    Inv-wake
+    μ-wake
+    Inv-search
+    μ-search
+    Inv-pass
+    μ-pass
+    Inv-shift
+    μ-shift
+    Inv-turns
+    μ-turns
+enum-told-9 c = ?
+
+-- src/lib.rt:246:17
+store-requires :
+    tie.Need-store-requires
+    Inv-older
+    μ-older
+    Inv-wake
+    μ-wake
+    Inv-search
+    μ-search
+    Inv-pass
+    μ-pass
+    Inv-shift
+    μ-shift
+    Inv-turns
+    μ-turns
+store-requires c κs = ?
+
+-- src/lib.rt:251:21
+retire-requires :
+    tie.Need-retire-requires
+    Inv-older
+    μ-older
+    Inv-wake
+    μ-wake
+    Inv-search
+    μ-search
+    Inv-pass
+    μ-pass
+    Inv-shift
+    μ-shift
+    Inv-turns
+    μ-turns
+retire-requires c κs = ?
+
+-- src/lib.rt:261:17
+sub-count-2 :
+    tie.Need-sub-count-2
+    Inv-older
+    μ-older
+    Inv-wake
+    μ-wake
+    Inv-search
+    μ-search
+    Inv-pass
+    μ-pass
+    Inv-shift
+    μ-shift
+    Inv-turns
+    μ-turns
+sub-count-2 c = ?
+
+-- src/lib.rt:264:17
+shift-holds :
+    tie.Need-shift-holds
+    Inv-older
+    μ-older
+    Inv-wake
+    μ-wake
+    Inv-search
+    μ-search
+    Inv-pass
+    μ-pass
+    Inv-shift
+    μ-shift
+    Inv-turns
+    μ-turns
+shift-holds c = ?
+
+-- src/lib.rt:265:37
+add-y :
+    tie.Need-add-y
+    Inv-older
+    μ-older
+    Inv-wake
+    μ-wake
+    Inv-search
+    μ-search
+    Inv-pass
+    μ-pass
+    Inv-shift
+    μ-shift
+    Inv-turns
+    μ-turns
+add-y c = ?
+
+-- src/lib.rt:265:29
+mul-y :
+    tie.Need-mul-y
+    Inv-older
+    μ-older
+    Inv-wake
+    μ-wake
+    Inv-search
+    μ-search
+    Inv-pass
+    μ-pass
+    Inv-shift
+    μ-shift
+    Inv-turns
+    μ-turns
+mul-y c = ?
+
+-- src/lib.rt:265:29
+array-copy-out-y :
+    tie.Need-array-copy-out-y
+    Inv-older
+    μ-older
+    Inv-wake
+    μ-wake
+    Inv-search
+    μ-search
+    Inv-pass
+    μ-pass
+    Inv-shift
+    μ-shift
+    Inv-turns
+    μ-turns
+array-copy-out-y c = ?
+
+-- src/lib.rt:266:21
+mul-entries-12 :
+    tie.Need-mul-entries-12
+    Inv-older
+    μ-older
+    Inv-wake
+    μ-wake
+    Inv-search
+    μ-search
+    Inv-pass
+    μ-pass
+    Inv-shift
+    μ-shift
+    Inv-turns
+    μ-turns
+mul-entries-12 c = ?
+
+-- src/lib.rt:266:21
+array-set-from-entries-12 :
+    tie.Need-array-set-from-entries-12
+    Inv-older
+    μ-older
+    Inv-wake
+    μ-wake
+    Inv-search
+    μ-search
+    Inv-pass
+    μ-pass
+    Inv-shift
+    μ-shift
+    Inv-turns
+    μ-turns
+array-set-from-entries-12 c = ?
+
+-- src/lib.rt:267:21
+add-j-2 :
+    tie.Need-add-j-2
+    Inv-older
+    μ-older
+    Inv-wake
+    μ-wake
+    Inv-search
+    μ-search
+    Inv-pass
+    μ-pass
+    Inv-shift
+    μ-shift
+    Inv-turns
+    μ-turns
+add-j-2 c = ?
+
+-- src/lib.rt:264:17
+shift-less :
+    tie.Need-shift-less
+    Inv-older
+    μ-older
+    Inv-wake
+    μ-wake
+    Inv-search
+    μ-search
+    Inv-pass
+    μ-pass
+    Inv-shift
+    μ-shift
+    Inv-turns
+    μ-turns
+shift-less c = ?
+
+-- src/lib.rt:264:17
+shift-again :
+    tie.Need-shift-again
+    Inv-older
+    μ-older
+    Inv-wake
+    μ-wake
+    Inv-search
+    μ-search
+    Inv-pass
+    μ-pass
+    Inv-shift
+    μ-shift
+    Inv-turns
+    μ-turns
+shift-again c = ?
+
+-- src/lib.rt:269:21
+empty-requires-2 :
+    tie.Need-empty-requires-2
+    Inv-older
+    μ-older
+    Inv-wake
+    μ-wake
+    Inv-search
+    μ-search
+    Inv-pass
+    μ-pass
+    Inv-shift
+    μ-shift
+    Inv-turns
+    μ-turns
+empty-requires-2 c κs = ?
+
+-- src/lib.rt:270:17
+mul-entries-13 :
+    tie.Need-mul-entries-13
+    Inv-older
+    μ-older
+    Inv-wake
+    μ-wake
+    Inv-search
+    μ-search
+    Inv-pass
+    μ-pass
+    Inv-shift
+    μ-shift
+    Inv-turns
+    μ-turns
+mul-entries-13 c = ?
+
+-- src/lib.rt:270:17
+array-set-from-entries-13 :
+    tie.Need-array-set-from-entries-13
+    Inv-older
+    μ-older
+    Inv-wake
+    μ-wake
+    Inv-search
+    μ-search
+    Inv-pass
+    μ-pass
+    Inv-shift
+    μ-shift
+    Inv-turns
+    μ-turns
+array-set-from-entries-13 c = ?
+
+-- src/lib.rt:271:21
+accepted-requires-8 :
+    tie.Need-accepted-requires-8
+    Inv-older
+    μ-older
+    Inv-wake
+    μ-wake
+    Inv-search
+    μ-search
+    Inv-pass
+    μ-pass
+    Inv-shift
+    μ-shift
+    Inv-turns
+    μ-turns
+accepted-requires-8 c κs = ?
+
+-- src/lib.rt:52:5
+turns-less-11 :
+    tie.Need-turns-less-11
+    Inv-older
+    μ-older
+    Inv-wake
+    μ-wake
+    Inv-search
+    μ-search
+    Inv-pass
+    μ-pass
+    Inv-shift
+    μ-shift
+    Inv-turns
+    μ-turns
+turns-less-11 c = ?
+
+-- src/lib.rt:52:5
+turns-again-11 :
+    tie.Need-turns-again-11
+    Inv-older
+    μ-older
+    Inv-wake
+    μ-wake
+    Inv-search
+    μ-search
+    Inv-pass
+    μ-pass
+    Inv-shift
+    μ-shift
+    Inv-turns
+    μ-turns
+turns-again-11 c = ?
+
+-- src/lib.rt:275:21
+enum-told-10 :
+    tie.Need-enum-told-10
+    Inv-older
+    μ-older
+    Inv-wake
+    μ-wake
+    Inv-search
+    μ-search
+    Inv-pass
+    μ-pass
+    Inv-shift
+    μ-shift
+    Inv-turns
+    μ-turns
+enum-told-10 c = ?
+
+-- src/lib.rt:278:64
+sub-accepted-4 :
+    tie.Need-sub-accepted-4
+    Inv-older
+    μ-older
+    Inv-wake
+    μ-wake
+    Inv-search
+    μ-search
+    Inv-pass
+    μ-pass
+    Inv-shift
+    μ-shift
+    Inv-turns
+    μ-turns
+sub-accepted-4 c = ?
+
+-- src/lib.rt:278:63
+cast-accepted-4 :
+    tie.Need-cast-accepted-4
+    Inv-older
+    μ-older
+    Inv-wake
+    μ-wake
+    Inv-search
+    μ-search
+    Inv-pass
+    μ-pass
+    Inv-shift
+    μ-shift
+    Inv-turns
+    μ-turns
+cast-accepted-4 c = ?
+
+-- src/lib.rt:278:21
+accepted-requires-9 :
+    tie.Need-accepted-requires-9
+    Inv-older
+    μ-older
+    Inv-wake
+    μ-wake
+    Inv-search
+    μ-search
+    Inv-pass
+    μ-pass
+    Inv-shift
+    μ-shift
+    Inv-turns
+    μ-turns
+accepted-requires-9 c κs = ?
+
+-- src/lib.rt:52:5
+turns-less-12 :
+    tie.Need-turns-less-12
+    Inv-older
+    μ-older
+    Inv-wake
+    μ-wake
+    Inv-search
+    μ-search
+    Inv-pass
+    μ-pass
+    Inv-shift
+    μ-shift
+    Inv-turns
+    μ-turns
+turns-less-12 c = ?
+
+-- src/lib.rt:52:5
+turns-again-12 :
+    tie.Need-turns-again-12
+    Inv-older
+    μ-older
+    Inv-wake
+    μ-wake
+    Inv-search
+    μ-search
+    Inv-pass
+    μ-pass
+    Inv-shift
+    μ-shift
+    Inv-turns
+    μ-turns
+turns-again-12 c = ?
+
+-- src/lib.rt:282:21
+enum-told-11 :
+    tie.Need-enum-told-11
+    Inv-older
+    μ-older
+    Inv-wake
+    μ-wake
+    Inv-search
+    μ-search
+    Inv-pass
+    μ-pass
+    Inv-shift
+    μ-shift
+    Inv-turns
+    μ-turns
+enum-told-11 c = ?
+
+-- src/lib.rt:282:21
+refused-requires-3 :
+    tie.Need-refused-requires-3
+    Inv-older
+    μ-older
+    Inv-wake
+    μ-wake
+    Inv-search
+    μ-search
+    Inv-pass
+    μ-pass
+    Inv-shift
+    μ-shift
+    Inv-turns
+    μ-turns
+refused-requires-3 c κs = ?
+
+-- src/lib.rt:52:5
+turns-less-13 :
+    tie.Need-turns-less-13
+    Inv-older
+    μ-older
+    Inv-wake
+    μ-wake
+    Inv-search
+    μ-search
+    Inv-pass
+    μ-pass
+    Inv-shift
+    μ-shift
+    Inv-turns
+    μ-turns
+turns-less-13 c = ?
+
+-- src/lib.rt:52:5
+turns-again-13 :
+    tie.Need-turns-again-13
+    Inv-older
+    μ-older
+    Inv-wake
+    μ-wake
+    Inv-search
+    μ-search
+    Inv-pass
+    μ-pass
+    Inv-shift
+    μ-shift
+    Inv-turns
+    μ-turns
+turns-again-13 c = ?
+
+-- src/lib.rt:290:20
+cast-t207 :
+    tie.Need-cast-t207
+    Inv-older
+    μ-older
+    Inv-wake
+    μ-wake
+    Inv-search
+    μ-search
+    Inv-pass
+    μ-pass
+    Inv-shift
+    μ-shift
+    Inv-turns
+    μ-turns
+cast-t207 c = ?
+
+-- src/lib.rt:22:1
+same-length :
+    tie.Need-same-length
+    Inv-older
+    μ-older
+    Inv-wake
+    μ-wake
+    Inv-search
+    μ-search
+    Inv-pass
+    μ-pass
+    Inv-shift
+    μ-shift
+    Inv-turns
+    μ-turns
+same-length c = ?
+
+-- src/lib.rt:22:1
+returns :
+    tie.Need-returns
+    Inv-older
+    μ-older
+    Inv-wake
+    μ-wake
+    Inv-search
+    μ-search
+    Inv-pass
+    μ-pass
+    Inv-shift
+    μ-shift
+    Inv-turns
+    μ-turns
+returns c = ?
 
 pub play-spec : {M : Type 1} → statement M
 play-spec =
     tie.close
     (tie.spec
-    Inv-loop2
-    μ-loop2
-    Inv-loop3
-    μ-loop3
-    Inv-loop
-    μ-loop
+    Inv-older
+    μ-older
+    Inv-wake
+    μ-wake
+    Inv-search
+    μ-search
+    Inv-pass
+    μ-pass
+    Inv-shift
+    μ-shift
+    Inv-turns
+    μ-turns
+    cast-count
     first-index-requires
     cast-index
-    loop-holds
+    turns-holds
+    sub-count
+    mul-x
+    array-copy-out-x
+    empty-requires
+    mul-entries
+    array-set-from-entries
+    restore-requires
+    turns-less
+    turns-again
     record-at-requires
     cast-index-2
     sub-left
-    cast-count
-    decodes-requires
-    entry-for-requires
-    map-to-requires
-    map-to-requires-2
-    set-valid-requires
-    look-up-requires
-    head-after-requires
-    store-under-requires
+    place-requires
     mul-e
-    element-set-from-e
-    add-machine
+    array-copy-out-e
+    way-of-requires
+    enum-told
+    entry-for-requires
+    rename-requires
+    mul-entries-2
+    array-set-from-entries-2
+    add-count
     accepted-requires
-    loop-less
-    loop-again
-    cast-at
-    mul-e-2
-    element-copy-out-e
-    issues-requires
+    turns-less-2
+    turns-again-2
+    enum-told-2
     read-requires
-    mul-read
-    element-set-from-read
+    mul-entries-3
+    array-set-from-entries-3
     accepted-requires-2
-    loop-less-2
-    loop-again-2
-    completes-requires
-    outcome-requires
-    smooth-requires
-    completed-requires
-    mul-ended
-    element-set-from-ended
+    turns-less-3
+    turns-again-3
+    enum-told-3
+    older-holds
+    mul-x-2
+    array-copy-out-x-2
+    is-store-requires
+    add-k
+    older-less
+    older-again
+    refused-requires
+    turns-less-4
+    turns-again-4
+    read-requires-2
+    mul-entries-4
+    array-set-from-entries-4
     accepted-requires-3
-    loop-less-3
-    loop-again-3
-    completed-requires-2
-    mul-done
-    element-set-from-done
-    mapped-requires
-    map-where-requires
-    valid-where-requires
-    store-under-requires-2
+    turns-less-5
+    turns-again-5
+    enum-told-4
+    outcome-requires
+    ending-of-requires
+    enum-told-5
+    stopped-requires
+    mul-entries-5
+    array-set-from-entries-5
+    accepted-requires-4
+    turns-less-6
+    turns-again-6
+    enum-told-6
+    finished-requires
+    mul-entries-6
+    array-set-from-entries-6
+    kept-after-requires
+    fetch-after-requires
+    sub-accepted
+    cast-accepted
+    accepted-requires-5
+    turns-less-7
+    turns-again-7
+    enum-told-7
+    finished-requires-2
+    mul-entries-7
+    array-set-from-entries-7
+    learn-requires
     store-value-requires
     take-requires
-    loop2-holds
-    mul-x
-    element-copy-out-x
+    wake-holds
+    mul-x-3
+    array-copy-out-x-3
+    is-on-requires
     wake-requires
-    mul-woken
-    element-set-from-woken
-    add-k
-    loop2-less
-    loop2-again
-    accepted-requires-4
-    loop-less-4
-    loop-again-4
-    retires-requires
+    mul-entries-8
+    array-set-from-entries-8
+    add-k-2
+    wake-less
+    wake-again
+    kept-after-requires-2
+    fetch-after-requires-2
+    sub-accepted-2
+    cast-accepted-2
+    accepted-requires-6
+    turns-less-8
+    turns-again-8
+    enum-told-8
+    sub-k
+    search-holds
+    mul-x-4
+    array-copy-out-x-4
+    held-requires
+    sub-k-2
+    search-less
+    search-again
+    refused-requires-2
+    turns-less-9
+    turns-again-9
+    mul-owner
+    array-copy-out-owner
+    held-requires-2
+    waiting-requires
+    mul-entries-9
+    array-set-from-entries-9
+    learn-requires-2
+    finished-requires-3
+    mul-entries-10
+    array-set-from-entries-10
+    learn-requires-3
+    store-value-requires-2
+    pass-holds
+    mul-x-5
+    array-copy-out-x-5
+    passed-on-requires
+    mul-entries-11
+    array-set-from-entries-11
+    add-j
+    pass-less
+    pass-again
+    kept-after-requires-3
+    fetch-after-requires-3
+    sub-accepted-3
+    cast-accepted-3
+    accepted-requires-7
+    turns-less-10
+    turns-again-10
+    enum-told-9
     store-requires
-    look-up-requires-2
-    free-requires
-    store-under-requires-3
-    free-requires-2
-    sub-last
-    loop3-holds
+    retire-requires
+    sub-count-2
+    shift-holds
     add-y
     mul-y
-    element-copy-out-y
-    mul-y-2
-    element-set-from-y
-    add-j
-    loop3-less
-    loop3-again
-    empty-requires
-    mul-empty
-    element-set-from-empty
-    sub-machine
-    accepted-requires-5
-    loop-less-5
-    loop-again-5
-    event-requires
-    loop-less-6
-    loop-again-6
+    array-copy-out-y
+    mul-entries-12
+    array-set-from-entries-12
+    add-j-2
+    shift-less
+    shift-again
+    empty-requires-2
+    mul-entries-13
+    array-set-from-entries-13
+    accepted-requires-8
+    turns-less-11
+    turns-again-11
+    enum-told-10
+    sub-accepted-4
+    cast-accepted-4
+    accepted-requires-9
+    turns-less-12
+    turns-again-12
+    enum-told-11
+    refused-requires-3
+    turns-less-13
+    turns-again-13
+    cast-t207
     same-length
-    returns
-    same-length-2
-    returns-2)
+    returns)

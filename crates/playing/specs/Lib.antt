@@ -1,2 +1,0 @@
--- What the ways of the loop cite.
-pub mod Ways

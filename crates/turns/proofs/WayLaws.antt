@@ -1,0 +1,189 @@
+-- What the way of an event says of its call.
+use Prim.Native.Nat.{ℕ, _<_, _≤_}
+use mathlib.Core.Path.{_≡_, refl, sym, ap, subst, _∙_}
+use mathlib.Core.Bool.{Bool, true, false, not, _&&_}
+use native.Mathlib.Omega.{arith}
+use borrow.Author.Tests.{eq-eqb, ne-eqb, eqb-true, eqb-false, leb-false, le-leb, lt-leb}
+use lib.Dec.{eqb, leb}
+use Rattle.isa.specs.Reads.{choose}
+use Rattle.reference.specs.Step.{first}
+use Rattle.execution.specs.Roles.{loads}
+use Rattle.tables.specs.Operand.{isReady}
+use Rattle.tables.specs.Entry.{isWaiting, isIssued, isCompleted}
+use Rattle.tables.specs.declared.Entry.{Entry}
+use Rattle.formats.specs.declared.Record.{Record}
+use Rattle.machine.specs.Call.{halted, noEntry}
+use Rattle.machine.specs.Changes.{entryAt}
+use Rattle.machine.specs.declared.Machine.{Machine}
+use Rattle.decoding.specs.Decode.{decodeRefusal}
+use Rattle.issuing.specs.Issue.{storeBelow, issueRefusal}
+use Rattle.issuing.proofs.IssueLaws as Issuing
+use Rattle.completing.specs.Complete.{completeRefusal}
+use Rattle.completing.proofs.CompleteLaws as Completing
+use Rattle.committing.specs.Commit.{commitRefusal}
+use Rattle.committing.proofs.CommitLaws as Committing
+use Rattle.agreement.specs.Lists.{Call, decode, issue, complete, commit}
+use Rattle.events.specs.Counts.{callBy}
+use Rattle.events.proofs.EventLaws.{by-decode, by-issue, by-complete, by-commit}
+use Rattle.turns.specs.declared.Way.{Way}
+use Rattle.turns.specs.declared.Way.the-variants.{Refused, Decode, Issue, Load, Complete, Commit, Halt}
+use Rattle.turns.specs.Ways.{placeOf, issueWay, commitWay, wayOf}
+
+-- the refusals 10 to 16 of a call
+abbrev pub refusalBy : Call → Machine → ℕ
+refusalBy (decode guess) m = decodeRefusal m
+refusalBy (issue position) m = issueRefusal position m
+refusalBy (complete position) m = completeRefusal position m
+refusalBy commit m = commitRefusal m
+
+refused-halted : (call : Call) (m : Machine) → halted m ≡ true → 10 ≡ refusalBy call m
+unfolding decodeRefusal first
+refused-halted (decode guess) m h = rw h
+refused-halted (issue position) m h = Issuing.refused-halted position m h
+refused-halted (complete position) m h = Completing.refused-halted position m h
+refused-halted commit m h = Committing.refused-halted m h
+
+-- a commit looks at the oldest entry
+place-oldest : (r : Record) → eqb (r .kind) 2 ≡ false → eqb (r .kind) 3 ≡ false → placeOf r ≡ 0
+place-oldest r not2 not3 = rw (not2, not3) (at (leb 64 (r .position)))
+  where
+    at : (b : Bool) → _≡_ {A = ℕ} (choose b 0 0) 0
+    at true = refl
+    at false = refl
+
+-- one of two cases, with what the test says in each
+by-test : {A : Type 0} (P : A → Type 0) (b : Bool) (x y : A) → (b ≡ true → P x) → (b ≡ false → P y) → P (choose b x y)
+by-test P true x y h k = h refl
+by-test P false x y h k = k refl
+
+-- an event of a machine, and the place that it looks at
+module _ (r : Record) (m : Machine) (n : ℕ) where
+  abbrev e : Entry
+  e = entryAt m n
+
+  pub record Refuses : Type 0 where
+    pub some : refusalBy (callBy r) m ≡ 0 → ⊥
+
+  pub record Decodes : Type 0 where
+    pub call : callBy r ≡ decode (r .guess)
+    pub accepted : decodeRefusal m ≡ 0
+    pub room : m .count < m .setup .window
+
+  pub record Issues : Type 0 where
+    pub call : callBy r ≡ issue n
+    pub there : n < m .count
+    pub accepted : issueRefusal n m ≡ 0
+
+  -- the issue of a load: an older store decides
+  pub record Loads : Type 0 where
+    pub call : callBy r ≡ issue n
+    pub there : n < m .count
+    pub accepted : storeBelow n (m .entries) ≡ false → issueRefusal n m ≡ 0
+    pub barred : storeBelow n (m .entries) ≡ true → 15 ≡ issueRefusal n m
+
+  -- a complete of an issued entry: whether a register is needed and found decides
+  pub record Completes : Type 0 where
+    pub call : callBy r ≡ complete n
+    pub there : n < m .count
+    pub runs : halted m ≡ false
+    pub issued : isIssued (e .state) ≡ true
+
+  pub record Commits : Type 0 where
+    pub call : callBy r ≡ commit
+    pub oldest : n ≡ 0
+    pub there : 0 < m .count
+    pub runs : m .halt .cause ≡ 0
+    pub accepted : commitRefusal m ≡ 0
+
+  abbrev Says : Way → Type 0
+  Says Refused = Refuses
+  Says Decode = Decodes
+  Says Issue = Issues
+  Says Load = Loads
+  Says Complete = Completes
+  Says Commit = Commits × (e .stop .cause ≡ 0)
+  Says Halt = Commits × (e .stop .cause ≡ 0 → ⊥)
+
+  refuses : {call : Call} → callBy r ≡ call → (number : ℕ) → (number ≡ 0 → ⊥) → number ≡ refusalBy call m → Refuses
+  refuses q number some is = record { some = λ z. some (is ∙ sym (ap (λ (x : Call). refusalBy x m) q) ∙ z) }
+
+  module _ (at : n ≡ placeOf r) (few : m .count ≤ 64) (runs : halted m ≡ false) where
+    decodes : r .kind ≡ 1 → Says (choose (leb (m .setup .window) (m .count)) Refused Decode)
+    unfolding decodeRefusal first
+    decodes kind =
+        by-test Says (leb (m .setup .window) (m .count)) Refused Decode
+        (λ full. refuses (by-decode r kind) 11 (eqb-false 11 0 refl) (rw (runs, full)))
+        (λ room. record { call = by-decode r kind; accepted = rw (runs, room); room = leb-false (m .setup .window) (m .count) room })
+
+    -- a position that is an entry's is the place looked at
+    place-issued : r .kind ≡ 2 → r .position < m .count → n ≡ r .position
+    place-issued kind there = at ∙ rw (lt-leb 64 (r .position) (omega arith), eq-eqb (r .kind) 2 kind)
+
+    place-completed : r .kind ≡ 3 → r .position < m .count → n ≡ r .position
+    place-completed kind there = at ∙ rw (lt-leb 64 (r .position) (omega arith), kind)
+
+    module _ (kind : r .kind ≡ 2) where
+      call-issue : callBy r ≡ issue (r .position)
+      call-issue = by-issue r (λ z. let two = kind in omega arith) kind
+
+      issues : n ≡ r .position → noEntry m n ≡ false → Says (issueWay e)
+      issues same there =
+          let call : callBy r ≡ issue n = call-issue ∙ ap issue (sym same) in
+          let below : n < m .count = leb-false (m .count) n there in
+          by-test Says (isWaiting (e .state)) _ Refused
+          (λ waits. by-test Says (isReady (e .left) && isReady (e .right)) _ Refused
+          (λ ready. by-test Says (loads (e .instruction)) Load Issue
+          (λ load. record { call = call; there = below; accepted = λ none. sym (Issuing.no-store n m runs there waits ready load none); barred = Issuing.refused-store n m runs there waits ready load })
+          (λ plain. record { call = call; there = below; accepted = sym (Issuing.no-load n m runs there waits ready plain) }))
+          (λ unready. refuses call 14 (eqb-false 14 0 refl) (Issuing.refused-operand n m runs there waits unready)))
+          (λ other. refuses call 13 (eqb-false 13 0 refl) (Issuing.refused-state n m runs there other))
+
+    module _ (kind : r .kind ≡ 3) where
+      call-complete : callBy r ≡ complete (r .position)
+      call-complete = by-complete r (λ z. let three = kind in omega arith) (λ z. let three = kind in omega arith) kind
+
+      completes : n ≡ r .position → noEntry m n ≡ false → Says (choose (isIssued (e .state)) Complete Refused)
+      completes same there =
+          let call : callBy r ≡ complete n = call-complete ∙ ap complete (sym same) in
+          by-test Says (isIssued (e .state)) Complete Refused
+          (λ issued. record { call = call; there = leb-false (m .count) n there; runs = runs; issued = issued })
+          (λ other. refuses call 13 (eqb-false 13 0 refl) (Completing.refused-state n m runs there other))
+
+    module _ (call : callBy r ≡ commit) (oldest : n ≡ 0) where
+      commits : noEntry m 0 ≡ false → (cause : m .halt .cause ≡ 0) → Says (commitWay e)
+      commits there cause =
+          let same : e ≡ entryAt m 0 = ap (entryAt m) oldest in
+          by-test Says (isCompleted (e .state)) _ Refused
+          (λ completed.
+          let c : Commits = record { call = call; oldest = oldest; there = leb-false (m .count) 0 there; runs = cause; accepted = sym (Committing.not-refused m runs there (sym (ap (λ (x : Entry). isCompleted (x .state)) same) ∙ completed)) } in
+          by-test Says (eqb (e .stop .cause) 0) Commit Halt (λ none. (c, eqb-true (e .stop .cause) 0 none)) (λ some. (c, eqb-false (e .stop .cause) 0 some)))
+          (λ other. refuses call 13 (eqb-false 13 0 refl) (Committing.refused-state m runs there (sym (ap (λ (x : Entry). isCompleted (x .state)) same) ∙ other)))
+
+    at-entry : noEntry m (r .position) ≡ false → n ≡ r .position → noEntry m n ≡ false
+    at-entry there same = ap (noEntry m) same ∙ there
+
+  pub way-says : n ≡ placeOf r → m .count ≤ 64 → Says (wayOf r (m .halt) (m .setup) (m .count) e)
+  unfolding wayOf
+  way-says at few =
+      by-test Says (eqb (m .halt .cause) 0) _ Refused
+      (λ going.
+      let runs : halted m ≡ false = ap not going in
+      by-test Says (eqb (r .kind) 1) _ _ (λ one. decodes at few runs (eqb-true (r .kind) 1 one))
+      (λ not1. by-test Says (eqb (r .kind) 2) _ _
+      (λ two.
+      let kind = eqb-true (r .kind) 2 two in
+      by-test Says (leb (m .count) (r .position)) Refused _
+      (λ beyond. refuses (call-issue at few runs kind) 12 (eqb-false 12 0 refl) (Issuing.refused-place (r .position) m runs beyond))
+      (λ there. let same = place-issued at few runs kind (leb-false (m .count) (r .position) there) in issues at few runs kind same (at-entry at few runs there same)))
+      (λ not2. by-test Says (eqb (r .kind) 3) _ _
+      (λ three.
+      let kind = eqb-true (r .kind) 3 three in
+      by-test Says (leb (m .count) (r .position)) Refused _
+      (λ beyond. refuses (call-complete at few runs kind) 12 (eqb-false 12 0 refl) (Completing.refused-place (r .position) m runs beyond))
+      (λ there. let same = place-completed at few runs kind (leb-false (m .count) (r .position) there) in completes at few runs kind same (at-entry at few runs there same)))
+      (λ not3.
+      let call = by-commit r (eqb-false (r .kind) 1 not1) (eqb-false (r .kind) 2 not2) (eqb-false (r .kind) 3 not3) in
+      by-test Says (eqb (m .count) 0) Refused _
+      (λ none. refuses call 12 (eqb-false 12 0 refl) (Committing.refused-place m runs (le-leb (m .count) 0 (let z = eqb-true (m .count) 0 none in omega arith))))
+      (λ some. commits at few runs call (at ∙ place-oldest r not2 not3) (lt-leb (m .count) 0 (let z = eqb-false (m .count) 0 some in omega arith)) (eqb-true (m .halt .cause) 0 going))))))
+      (λ stopped. refuses refl 10 (eqb-false 10 0 refl) (refused-halted (callBy r) m (ap not stopped)))

@@ -1,0 +1,178 @@
+// Which way an event goes, by its record and by what is seen of the machine; and what the ways read.
+ghost use mathlib.Core.Path.{_≡_};
+ghost use mathlib.Core.Bool.{_||_};
+ghost use Prim.Native.Nat.{_<_, _≤_};
+ghost use lib.ListN.{length};
+ghost use lib.Dec.{eqb};
+ghost use Rattle.turns.specs.Ways as Ways;
+use crate::Ending;
+use crate::Way;
+use execution::Outcome;
+use execution::Stop;
+use execution::roles;
+use formats::Record;
+use machine::Setup;
+use tables::Entry;
+use tables::Operand;
+use tables::entries;
+use tables::operands;
+
+// the place that an event looks at: the position of an issue or a complete, else that of the oldest entry
+pub fn place(r: Record) -> usize
+    ensures { λ n. ⌜ (n ≡ Ways.placeOf r) × (n < 64) × (n ≤ r .position) ⌝ }
+{
+    let kind = r.kind;
+    let position = r.position as usize;
+    if 64 <= position {
+        return 0;
+    }
+    if kind == 2 {
+        return position;
+    }
+    if kind == 3 {
+        return position;
+    }
+    0
+}
+
+fn issue_way(e: Entry) -> Way
+    requires { ⌜ e .instruction .operation < 40 ⌝ }
+    ensures { λ w. ⌜ w ≡ Ways.issueWay e ⌝ }
+{
+    if !entries::is_waiting(e) {
+        return Way::Refused;
+    }
+    if !entries::is_ready(e) {
+        return Way::Refused;
+    }
+    let i = e.instruction;
+    if roles::is_load(i) {
+        return Way::Load;
+    }
+    Way::Issue
+}
+
+fn commit_way(e: Entry) -> Way
+    ensures { λ w. ⌜ w ≡ Ways.commitWay e ⌝ }
+{
+    if !entries::is_completed(e) {
+        return Way::Refused;
+    }
+    let stop = e.stop;
+    if stop.cause == 0 {
+        return Way::Commit;
+    }
+    Way::Halt
+}
+
+// the way of an event; 15 and 16 are found on the way
+pub fn way_of(r: Record, halt: Stop, s: Setup, count: usize, e: Entry) -> Way
+    requires { ⌜ (r .position < count → e .instruction .operation < 40) ⌝ }
+    ensures { λ w. ⌜ w ≡ Ways.wayOf r halt s count e ⌝ }
+{
+    let kind = r.kind;
+    let position = r.position as usize;
+    if halt.cause != 0 {
+        return Way::Refused;
+    }
+    if kind == 1 {
+        if s.window as usize <= count {
+            return Way::Refused;
+        }
+        return Way::Decode;
+    }
+    if kind == 2 {
+        if count <= position {
+            return Way::Refused;
+        }
+        return issue_way(e);
+    }
+    if kind == 3 {
+        if count <= position {
+            return Way::Refused;
+        }
+        if !entries::is_issued(e) {
+            return Way::Refused;
+        }
+        return Way::Complete;
+    }
+    if count == 0 {
+        return Way::Refused;
+    }
+    commit_way(e)
+}
+
+pub fn outcome(s: Setup, e: Entry) -> Outcome
+    requires { ⌜ e .instruction .operation < 40 ⌝ }
+    ensures { λ r. ⌜ r ≡ Ways.outcomeBy s e ⌝ }
+{
+    let i = e.instruction;
+    execution::execute(s.bytes as usize, i, e.address, e.first, e.second)
+}
+
+pub fn ending_of(e: Entry, o: Outcome, head: u8) -> Ending
+    ensures { λ w. ⌜ w ≡ Ways.endingOf e o head ⌝ }
+{
+    let stop = o.stop;
+    if stop.cause != 0 {
+        return Ending::Stops;
+    }
+    if e.destination == 0 {
+        return Ending::WithoutDestination;
+    }
+    if head == 0 {
+        return Ending::Steals;
+    }
+    Ending::Supplied
+}
+
+// where fetch goes after a completion: to the actual next address where it was not predicted
+pub fn fetch_after(next: u32, predicted: u32, fetch: u32) -> u32
+    ensures { λ r. ⌜ r ≡ Ways.fetchAfter next predicted fetch ⌝ }
+{
+    if next == predicted { fetch } else { next }
+}
+
+// how many entries stay after a completion: the younger ones go where the next address was not predicted
+pub fn kept_after(next: u32, predicted: u32, at: usize, count: usize) -> usize
+    requires { ⌜ (at < count) × (count ≤ 64) ⌝ }
+    ensures { λ k. ⌜ (k ≡ Ways.keptAfter next predicted at count) × (k ≤ count) ⌝ }
+{
+    if next == predicted { count } else { at + 1 }
+}
+
+// the entry with the values that it reads
+pub fn read(values: &[u32; 96], data: &[u8], e: Entry) -> Entry
+    requires { ⌜ (e .instruction .operation < 40) × (length (now values) ≡ 96) ⌝ }
+    ensures { λ r. ⌜ r ≡ Ways.readBy (now (values .entry)) (now («data» .entry)) e ⌝ }
+{
+    let i = e.instruction;
+    let left = e.left;
+    let right = e.right;
+    let first = operands::value_of(values, left);
+    let operand = operands::value_of(values, right);
+    let second = execution::second_value(i, data, first, operand);
+    entries::issued(e, first, second)
+}
+
+// the name that an operand is on, 0 for none
+fn name_of(operand: Operand) -> u8
+    ensures { λ n. ⌜ n ≡ Ways.nameOf operand ⌝ }
+{
+    match operand {
+        Operand::Zero => 0,
+        Operand::Waiting(n) => n,
+        Operand::Ready(n, _) => n,
+    }
+}
+
+// whether an operand of the entry is on the name: no other entry changes where the name's operands become ready
+pub fn is_on(e: Entry, name: u8) -> bool
+    ensures { λ b. ⌜ b ≡ (eqb (Ways.nameOf (e .left)) name || eqb (Ways.nameOf (e .right)) name) ⌝ }
+{
+    let left = e.left;
+    let right = e.right;
+    let one = name_of(left);
+    let two = name_of(right);
+    (one == name) | (two == name)
+}
