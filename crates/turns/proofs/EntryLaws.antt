@@ -16,6 +16,10 @@ use Rattle.tables.specs.declared.Operand.the-variants.{Zero, Waiting, Ready}
 use Rattle.tables.specs.declared.Entry.{Entry}
 use Rattle.machine.specs.Changes.{changeFirst}
 use Rattle.machine.proofs.ChangeLaws.{change-more, change-length}
+use Rattle.machine.specs.Setters.{withEntries}
+use Rattle.machine.specs.Machine.{zeroMachine}
+use Rattle.machine.specs.declared.Machine.{Machine}
+use Rattle.committing.proofs.CommitLaws.{shifted, shift-turn}
 use Rattle.turns.specs.Ways.{nameOf}
 
 -- one of them is stored before the change or after it
@@ -66,6 +70,15 @@ change-step f n start entries e h g =
 -- a turn that finds nothing to change
 pub change-skip : (f : Entry → Entry) (n : ℕ) (start entries : List Entry) → entries ≡ changeFirst n f start → getD entries n emptyEntry ≡ f (getD entries n emptyEntry) → entries ≡ changeFirst (n + 1) f start
 change-skip f n start entries h same = sym (set-getD entries n emptyEntry) ∙ change-step f n start entries (getD entries n emptyEntry) h same
+
+-- the loop's end
+pub change-end : (f : Entry → Entry) (n count : ℕ) (start entries : List Entry) → entries ≡ changeFirst n f start → n ≡ count → entries ≡ changeFirst count f start
+change-end f n count start entries h e = h ∙ ap (λ (k : ℕ). changeFirst k f start) e
+
+-- a turn of the loop that moves the entries down
+pub shift-step : (n : ℕ) (start entries : List Entry) → n + 1 < length start → entries ≡ shifted n start → set entries n (getD entries (n + 1) emptyEntry) ≡ shifted (n + 1) start
+shift-step n start entries l h =
+    ap (λ (m : Machine). m .entries) (shift-turn (withEntries start zeroMachine) (withEntries entries zeroMachine) n l (ap (λ (x : List Entry). withEntries x zeroMachine) h))
 
 -- an operand that is not on the name stays
 wake-other : (name register : ℕ) (o : Operand) → eqb (nameOf o) name ≡ false → o ≡ wake name register o

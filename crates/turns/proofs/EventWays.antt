@@ -118,7 +118,7 @@ module _ {program start schedule : List ℕ} {left index : ℕ} {m : Machine} {m
   refused-way some added = event-refused program memory m r counts m memory (refusalBy (callBy r) m) after (refused-made program memory m lent (callBy r) some) some added
 
   -- decode
-  pub decode-way : Decodes r m 0 → after ≡ adding 0 0 0 counts
+  pub decode-way : {n : ℕ} → Decodes r m n → after ≡ adding 0 0 0 counts
       → (e : Entry) (mapname mapregister namelink : List ℕ) (mapvalid : List Bool) (namehead : ℕ)
       → e ≡ entryFor (seen (m .mapname) (m .mapregister) (m .mapvalid) (m .namehead) (m .fetch)) (fetchAt program (m .fetch)) (r .guess)
       → mapname ≡ storeUnder (m .mapname) (e .destination) (e .name)
@@ -133,7 +133,7 @@ module _ {program start schedule : List ℕ} {left index : ℕ} {m : Machine} {m
       let q = d .call in
       let named = renamed-is m (e .destination) (e .name) mapname mapregister namelink mapvalid (lookUp (m .namelink) (m .namehead)) namehead a b c refl h f in
       let here : withFetch (e .predicted) (withCount (m .count + 1) (place (m .count) e (withFreeNames namehead namelink (withMap mapname mapregister mapvalid m)))) ≡ decoded program (r .guess) m =
-          rw add-one (entered m _ e named) ∙ ap (λ (x : Entry). enter x m) is in
+      rw add-one (entered m _ e named) ∙ ap (λ (x : Entry). enter x m) is in
       event-accepted program memory m r counts _ memory 0 after
       (decode-made program memory m lent (callBy r) (r .guess) (given _) q (ap given here ∙ answered-next m (decoded program (r .guess) m) (decodeRefusal m) (d .accepted))) lent refl 0 0 0 (rw q) (rw q) (rw q) added
 
@@ -185,14 +185,14 @@ module _ {program start schedule : List ℕ} {left index : ℕ} {m : Machine} {m
             let count : x .count ≡ m .count = ap (λ (y : Machine). y .count) at ∙ registered-count n (o .result) m in
             let late : ℕ → ℕ → Machine = λ p many. dropTo (keptAfter (o .next) p n many) (withFetch (fetchAfter (o .next) p (x .fetch)) (place n (predictedEntry (o .next) (entryAt x n)) x)) in
             let ends : dropTo keep k ≡ completed n m =
-                ap (dropTo keep) left
-                ∙ ap (λ (j : ℕ). dropTo j (withFetch (fetchAfter (o .next) (e .predicted) (x .fetch)) (place n (predictedEntry (o .next) (entryAt x n)) x))) stays
-                ∙ ap (λ (p : ℕ). late p (m .count)) (sym same)
-                ∙ ap (late (entryAt x n .predicted)) (sym count)
-                ∙ redirected-late n (o .next) x (let h = c .there in omega arith)
-                ∙ ap (redirected n (o .next)) at
-                ∙ finish-goes n o m calm
-                ∙ ap (λ (y : Outcome). finished n y m) is in
+            ap (dropTo keep) left
+            ∙ ap (λ (j : ℕ). dropTo j (withFetch (fetchAfter (o .next) (e .predicted) (x .fetch)) (place n (predictedEntry (o .next) (entryAt x n)) x))) stays
+            ∙ ap (λ (p : ℕ). late p (m .count)) (sym same)
+            ∙ ap (late (entryAt x n .predicted)) (sym count)
+            ∙ redirected-late n (o .next) x (let h = c .there in omega arith)
+            ∙ ap (redirected n (o .next)) at
+            ∙ finish-goes n o m calm
+            ∙ ap (λ (y : Outcome). finished n y m) is in
             let most : keep ≤ m .count = let h = kept-most (o .next) (e .predicted) n (m .count) (c .there) in omega arith in
             let same-count : k .count ≡ m .count = ap (λ (y : Machine). y .count) left ∙ count in
             let rest : dropTo keep k .count ≡ k .count - (k .count - keep) = dropped-count (k .count - keep) k in
@@ -274,9 +274,9 @@ module _ {program start schedule : List ℕ} {left index : ℕ} {m : Machine} {m
               let x : Machine = withEntries (changeFirst (m .count) passes (set before n ended)) rest in
               let robbery : x ≡ learned n register (o .result) (robbed victim m) = stolen-is m (kept g) n victim register (o .result) (c .there) within (λ z. other (sym z)) none lostregister newregister lostphysical newphysical values lostvalid newvalid a b d f h j w in
               let registers : learned n register (o .result) (robbed victim m) ≡ registered n (o .result) m =
-                  ap (λ (y : ℕ). learned n y (o .result) (robbed victim m)) holds
-                  ∙ ap (λ (v : ℕ). learned n (held (m .physical) (entryAt m v)) (o .result) (robbed v m)) found
-                  ∙ stolen-register n (o .result) m some none in
+              ap (λ (y : ℕ). learned n y (o .result) (robbed victim m)) holds
+              ∙ ap (λ (v : ℕ). learned n (held (m .physical) (entryAt m v)) (o .result) (robbed v m)) found
+              ∙ stolen-register n (o .result) m some none in
               finished-way (sym (has-victim n m (c .runs) (lt-leb (m .count) n (c .there)) (c .issued) needed (ne-eqb (victimOf m n) n (λ z. other (found ∙ z))))) x (robbery ∙ registers)
               (finish-predicted passes (o .next) n (λ y. refl) (λ y. refl) before ended x x refl refl (c .there) room)
               (withFetch fetch (withEntries entries rest))

@@ -11,6 +11,7 @@ use Rattle.isa.specs.Reads.{choose}
 use Rattle.tables.specs.Table.{lookUnder, lookUp, storeUnder}
 use Rattle.tables.specs.Entry.{emptyEntry, completedEntry, predictedEntry, waitingEntry, sleepEntry, wakeEntry, held}
 use Rattle.tables.specs.declared.Entry.{Entry}
+use Rattle.tables.proofs.TableLaws.{store-length}
 use Rattle.machine.specs.Setters.{withEntries, withMap, withPhysical, withValues, withFetch}
 use Rattle.machine.specs.Changes.{entryAt, place, changeFirst, changeAll, mapsLearn, takeRegister}
 use Rattle.machine.specs.declared.Machine.{Machine}
@@ -37,6 +38,11 @@ module _ (f : Entry → Entry) (next n : ℕ) (order : (x : Entry) → f (predic
       ∙ ap (λ (e : Entry). e .predicted) (changed-at f (m .count) (set entries n done) n there (rw (length-set entries n done) room))
       ∙ stays (getD (set entries n done) n emptyEntry)
       ∙ ap (λ (e : Entry). e .predicted) (getD-set-same entries n done emptyEntry room)
+
+-- the length of a table that a name's register may be stored in
+pub learnt-length : {A : Type 0} (b : Bool) (table : List A) (n : ℕ) (value : A) → length (choose b (storeUnder table n value) table) ≡ length table
+learnt-length true table n value = store-length table n value
+learnt-length false table n value = refl
 
 -- an empty pool stays as it is
 none-taken : (m : Machine) → m .registerhead ≡ 0 → takeRegister m ≡ m

@@ -8,6 +8,7 @@ use lib.Dec.{eqb, leb}
 use Rattle.isa.specs.Reads.{choose}
 use Rattle.reference.specs.Step.{first}
 use Rattle.execution.specs.Roles.{loads}
+use Rattle.execution.specs.declared.Outcome.{Outcome}
 use Rattle.tables.specs.Operand.{isReady}
 use Rattle.tables.specs.Entry.{isWaiting, isIssued, isCompleted}
 use Rattle.tables.specs.declared.Entry.{Entry}
@@ -27,7 +28,9 @@ use Rattle.events.specs.Counts.{callBy}
 use Rattle.events.proofs.EventLaws.{by-decode, by-issue, by-complete, by-commit}
 use Rattle.turns.specs.declared.Way.{Way}
 use Rattle.turns.specs.declared.Way.the-variants.{Refused, Decode, Issue, Load, Complete, Commit, Halt}
-use Rattle.turns.specs.Ways.{placeOf, issueWay, commitWay, wayOf}
+use Rattle.turns.specs.declared.Ending.{Ending}
+use Rattle.turns.specs.declared.Ending.the-variants.{Stops, WithoutDestination, Supplied, Steals}
+use Rattle.turns.specs.Ways.{placeOf, issueWay, commitWay, wayOf, endingOf}
 
 -- the refusals 10 to 16 of a call
 abbrev pub refusalBy : Call → Machine → ℕ
@@ -95,7 +98,8 @@ module _ (r : Record) (m : Machine) (n : ℕ) where
     pub runs : m .halt .cause ≡ 0
     pub accepted : commitRefusal m ≡ 0
 
-  abbrev Says : Way → Type 0
+  -- by the way that was chosen
+  abbrev pub Says : Way → Type 0
   Says Refused = Refuses
   Says Decode = Decodes
   Says Issue = Issues
@@ -187,3 +191,19 @@ module _ (r : Record) (m : Machine) (n : ℕ) where
       (λ none. refuses call 12 (eqb-false 12 0 refl) (Committing.refused-place m runs (le-leb (m .count) 0 (let z = eqb-true (m .count) 0 none in omega arith))))
       (λ some. commits at few runs call (at ∙ place-oldest r not2 not3) (lt-leb (m .count) 0 (let z = eqb-false (m .count) 0 some in omega arith)) (eqb-true (m .halt .cause) 0 going))))))
       (λ stopped. refuses refl 10 (eqb-false 10 0 refl) (refused-halted (callBy r) m (ap not stopped)))
+
+-- how an entry completes, by its outcome and the head of the pool
+module _ (e : Entry) (o : Outcome) (head : ℕ) where
+  abbrev pub EndingSays : Ending → Type 0
+  EndingSays Stops = o .stop .cause ≡ 0 → ⊥
+  EndingSays WithoutDestination = (o .stop .cause ≡ 0) × (e .destination ≡ 0)
+  EndingSays Supplied = (o .stop .cause ≡ 0) × (e .destination ≡ 0 → ⊥) × (head ≡ 0 → ⊥)
+  EndingSays Steals = (o .stop .cause ≡ 0) × (e .destination ≡ 0 → ⊥) × (head ≡ 0)
+
+  pub ending-says : EndingSays (endingOf e o head)
+  ending-says =
+      by-test EndingSays (eqb (o .stop .cause) 0) _ Stops
+      (λ calm. by-test EndingSays (eqb (e .destination) 0) WithoutDestination _ (λ none. (eqb-true (o .stop .cause) 0 calm, eqb-true (e .destination) 0 none))
+      (λ some. by-test EndingSays (eqb head 0) Steals Supplied (λ empty. (eqb-true (o .stop .cause) 0 calm, eqb-false (e .destination) 0 some, eqb-true head 0 empty))
+      (λ free. (eqb-true (o .stop .cause) 0 calm, eqb-false (e .destination) 0 some, eqb-false head 0 free))))
+      (λ cause. eqb-false (o .stop .cause) 0 cause)

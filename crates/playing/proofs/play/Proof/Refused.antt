@@ -1,0 +1,27 @@
+-- The arm of events that are refused.
+use native.Mathlib.Omega.{arith}
+use borrow.Author.Needs.{needs}
+use Rattle.turns.specs.declared.Way.the-variants.{Refused}
+use Rattle.turns.proofs.Turning.{settled}
+use Rattle.turns.proofs.EventWays.{refused-way}
+use Rattle.playing.proofs.play.Tie as tie
+use Rattle.playing.proofs.play.Proof.Regions.{Given, goes, going, small-counts, some-left, told}
+
+pub enum-told-11 : Given tie.Need-enum-told-11
+enum-told-11 c =
+    search needs
+
+pub refused-requires-3 : Given tie.Need-refused-requires-3
+refused-requires-3 c κs =
+    small-counts (c .before .before)
+
+pub turns-less-13 : Given tie.Need-turns-less-13
+turns-less-13 c =
+    let t = some-left (c .before .before .before) in omega arith
+
+pub turns-again-13 : Given tie.Need-turns-again-13
+turns-again-13 c =
+    let p = c .before .before .before in (
+      (c .before .before .before .before .before .before .before .before .before .before .before) .turns .inv .0,
+      settled (c .before .before .before .before .before .before .before .before .before .before .if1 .left) (goes p _ (refused-way (going p) _ _ (told p Refused (c .before .enum-told11 .given .1) .some) (c .refused3 .ensures))),
+    )
