@@ -1,6 +1,6 @@
 // Complete: an entry gets its result and a register, free or stolen.
 ghost use mathlib.Core.Path.{_≡_};
-ghost use mathlib.Core.Bool.{true, _&&_};
+ghost use mathlib.Core.Bool.{true};
 ghost use Prim.Native.Nat.{_≤_, _<_};
 ghost use Rattle.machine.specs.Range.{machineInRange};
 ghost use Rattle.machine.specs.Changes.{changeAll};
@@ -37,17 +37,6 @@ fn outcome_at(machine: Machine, position: usize) -> Outcome
     let e = machine.entries[position];
     let i = e.instruction;
     execution::execute(s.bytes as usize, i, e.address, e.first, e.second)
-}
-
-// whether completing this entry takes a register from another: it needs one, and none is free
-pub fn steals(machine: Machine, position: usize) -> bool
-    requires { ⌜ (machineInRange machine ≡ true) × (position < machine .count) ⌝ }
-    ensures { λ r. ⌜ r ≡ (Complete.needsRegister machine position && Complete.noneFree machine) ⌝ }
-{
-    let e = machine.entries[position];
-    let outcome = outcome_at(machine, position);
-    let stop = outcome.stop;
-    (e.destination != 0) & (stop.cause == 0) & (machine.registerhead == 0)
 }
 
 fn complete_refusal(machine: Machine, position: usize) -> u8

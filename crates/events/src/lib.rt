@@ -1,6 +1,5 @@
-// The events of a schedule, made one after the other on a machine, and counted.
+// What the events of a schedule count.
 pub mod counting;
-pub mod making;
 
 use machine::Machine;
 

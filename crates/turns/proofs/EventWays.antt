@@ -19,7 +19,7 @@ use Rattle.tables.specs.FreeList.{takenHead, takenLink, freedHead, freedLink}
 use Rattle.tables.specs.Entry.{emptyEntry, stoppedEntry, completedEntry, predictedEntry, waitingEntry, sleepEntry, wakeEntry, held}
 use Rattle.tables.specs.declared.Entry.{Entry}
 use Rattle.formats.specs.declared.Record.{Record}
-use Rattle.machine.specs.Call.{lentRefusal, answered}
+use Rattle.machine.specs.Call.{lentRefusal}
 use Rattle.machine.specs.Changes.{entryAt, place, changeFirst}
 use Rattle.machine.specs.Setters.{withCount, withEntries, withMap, withPhysical, withValues, withFreeRegisters, withFreeNames, withFetch, withNext, withHalt}
 use Rattle.machine.specs.Drop.{dropYoungest, dropMany, dropTo}
@@ -43,8 +43,8 @@ use Rattle.events.specs.Counts.{callBy, refusing, Played, played}
 use Rattle.events.specs.Numbers.{adding}
 use Rattle.events.proofs.EventLaws.{decode-made, issue-made, complete-made, commit-made, event-accepted, event-refused}
 use Rattle.turns.specs.Ways.{readBy, fetchAfter, keptAfter}
-use Rattle.turns.proofs.Going.{Going, is-lent, kept, few, roomy}
-use Rattle.turns.proofs.WayLaws.{refusalBy, Refuses, Decodes, Issues, Loads, Completes, Commits}
+use Rattle.turns.proofs.Going.{Going, is-lent, kept, roomy}
+use Rattle.turns.proofs.WayLaws.{refusalBy, Decodes, Completes, Commits}
 use Rattle.turns.proofs.EntryLaws.{set-same}
 use Rattle.turns.proofs.RedirectLaws.{dropped-count, redirected-late}
 use Rattle.turns.proofs.TheftLaws.{finish-entries, finish-predicted, stolen-is}
@@ -135,7 +135,7 @@ module _ {program start schedule : List ℕ} {left index : ℕ} {m : Machine} {m
       let here : withFetch (e .predicted) (withCount (m .count + 1) (place (m .count) e (withFreeNames namehead namelink (withMap mapname mapregister mapvalid m)))) ≡ decoded program (r .guess) m =
       rw add-one (entered m _ e named) ∙ ap (λ (x : Entry). enter x m) is in
       event-accepted program memory m r counts _ memory 0 after
-      (decode-made program memory m lent (callBy r) (r .guess) (given _) q (ap given here ∙ answered-next m (decoded program (r .guess) m) (decodeRefusal m) (d .accepted))) lent refl 0 0 0 (rw q) (rw q) (rw q) added
+      (decode-made program memory m lent (callBy r) (r .guess) (given _) q (ap given here ∙ answered-next m (decoded program (r .guess) m) (decodeRefusal m) (d .accepted))) refl 0 0 0 (rw q) (rw q) (rw q) added
 
   -- issue, also of a load
   pub issue-way : (n : ℕ) → callBy r ≡ issue n → issueRefusal n m ≡ 0 → after ≡ adding 0 0 0 counts
@@ -143,7 +143,7 @@ module _ {program start schedule : List ℕ} {left index : ℕ} {m : Machine} {m
   unfolding issueWithin issued
   issue-way n q accepted added read is =
       event-accepted program memory m r counts _ memory 0 after
-      (issue-made program memory m lent (callBy r) n (given _) q (ap (λ (x : Entry). given (place n x m)) is ∙ answered-next m (issued memory n m) (issueRefusal n m) accepted)) lent refl 0 0 0 (rw q) (rw q) (rw q) added
+      (issue-made program memory m lent (callBy r) n (given _) q (ap (λ (x : Entry). given (place n x m)) is ∙ answered-next m (issued memory n m) (issueRefusal n m) accepted)) refl 0 0 0 (rw q) (rw q) (rw q) added
 
   pub barred-way : (call : Call) (number : ℕ) → callBy r ≡ call → number ≡ refusalBy call m → (number ≡ 0 → ⊥) → after ≡ refusing counts → reaching m memory after ≡ played program r (reaching m memory counts)
   barred-way call number q is some = refused-way (λ z. some (is ∙ sym (ap (λ (x : Call). refusalBy x m) q) ∙ z))
@@ -159,8 +159,8 @@ module _ {program start schedule : List ℕ} {left index : ℕ} {m : Machine} {m
     complete-way accepted k is s d stolen dropped added =
         let q = c .call in
         event-accepted program memory m r counts k memory 0 after
-        (complete-made program memory m lent (callBy r) n (given k) q (ap given is ∙ answered-next m (completed n m) (completeRefusal n m) accepted)) lent refl 0 s d
-        (rw q) (stolen ∙ rw (q, lt-leb (m .count) n (c .there))) (rw q dropped) added
+        (complete-made program memory m lent (callBy r) n (given k) q (ap given is ∙ answered-next m (completed n m) (completeRefusal n m) accepted)) refl 0 s d
+        (rw q) (stolen ∙ rw q) (rw q dropped) added
 
     accepts : needsRegister m n && noneFree m ≡ false → completeRefusal n m ≡ 0
     accepts enough = sym (supplied n m (c .runs) (lt-leb (m .count) n (c .there)) (c .issued) enough)
@@ -300,7 +300,7 @@ module _ {program start schedule : List ℕ} {left index : ℕ} {m : Machine} {m
         let runs : k .halt .cause ≡ 0 = ap (λ (y : Machine). y .halt .cause) x ∙ ap (λ (y : Stop). y .cause) (retired-halt m) ∙ c .runs in
         event-accepted program memory m r counts k written 0 after
         (commit-made program memory m lent (callBy r) (given k) written q
-        (commit-retires memory m (commitRefusal m) (c .accepted) k written none x (w ∙ ap (λ (y : Entry). stored (y .instruction) (y .first) (y .second) memory) oldest))) lent refl 1 0 0
+        (commit-retires memory m (commitRefusal m) (c .accepted) k written none x (w ∙ ap (λ (y : Entry). stored (y .instruction) (y .first) (y .second) memory) oldest))) refl 1 0 0
         (rw (q, eq-eqb (k .halt .cause) 0 runs)) (rw q) (rw (q, eq-eqb (k .halt .cause) 0 runs)) added
 
     -- with a cause: every entry is to be dropped
@@ -315,5 +315,5 @@ module _ {program start schedule : List ℕ} {left index : ℕ} {m : Machine} {m
         let some : entryAt m 0 .stop .cause ≡ 0 → ⊥ = λ z. cause (ap (λ (x : Entry). x .stop .cause) oldest ∙ z) in
         let halts : k .halt .cause ≡ 0 → ⊥ = λ z. cause (sym (ap (λ (x : Machine). x .halt .cause) late) ∙ z) in
         event-accepted program memory m r counts k memory 0 after
-        (commit-made program memory m lent (callBy r) (given k) memory q (commit-halts memory m (commitRefusal m) (c .accepted) k some same)) lent refl 0 0 (m .count - 1)
+        (commit-made program memory m lent (callBy r) (given k) memory q (commit-halts memory m (commitRefusal m) (c .accepted) k some same)) refl 0 0 (m .count - 1)
         (rw (q, ne-eqb (k .halt .cause) 0 halts)) (rw q) (rw (q, ne-eqb (k .halt .cause) 0 halts)) added

@@ -1,12 +1,11 @@
 -- A wrong prediction: fetch and the predicted next address are set first, then the younger entries are dropped one by one.
 use Prim.Native.Nat.{ℕ, zero, suc, _+_, _-_, _≤_, _<_}
-use mathlib.Core.Path.{_≡_, refl, sym, ap, _∙_}
+use mathlib.Core.Path.{_≡_, refl, ap, _∙_}
 use mathlib.Core.Bool.{Bool, true, false}
 use mathlib.Core.List.{List}
 use native.Mathlib.Omega.{arith}
 use borrow.Author.Tests.{eqb-true}
 use lib.Dec.{eqb}
-use lib.ListN.{getD, set}
 use lib.Seq.{getD-set-other, set-getD}
 use Rattle.isa.specs.Reads.{choose}
 use Rattle.tables.specs.Entry.{emptyEntry, predictedEntry}

@@ -3,13 +3,12 @@ use Prim.Native.Nat.{ℕ, _<_}
 use mathlib.Core.Path.{_≡_, refl, sym, ap, _∙_}
 use mathlib.Core.Bool.{Bool, true, false}
 use mathlib.Core.List.{List}
-use native.Mathlib.Omega.{arith}
 use lib.Dec.{eqb}
 use lib.ListN.{length, getD, set, length-set}
 use lib.Seq.{getD-set-same}
 use Rattle.isa.specs.Reads.{choose}
 use Rattle.tables.specs.Table.{lookUnder, lookUp, storeUnder}
-use Rattle.tables.specs.Entry.{emptyEntry, completedEntry, predictedEntry, waitingEntry, sleepEntry, wakeEntry, held}
+use Rattle.tables.specs.Entry.{emptyEntry, completedEntry, predictedEntry, waitingEntry, sleepEntry, wakeEntry}
 use Rattle.tables.specs.declared.Entry.{Entry}
 use Rattle.tables.proofs.TableLaws.{store-length}
 use Rattle.machine.specs.Setters.{withEntries, withMap, withPhysical, withValues, withFetch}

@@ -1,9 +1,9 @@
 -- What the way of an event says of its call.
 use Prim.Native.Nat.{ℕ, _<_, _≤_}
-use mathlib.Core.Path.{_≡_, refl, sym, ap, subst, _∙_}
+use mathlib.Core.Path.{_≡_, refl, sym, ap, _∙_}
 use mathlib.Core.Bool.{Bool, true, false, not, _&&_}
 use native.Mathlib.Omega.{arith}
-use borrow.Author.Tests.{eq-eqb, ne-eqb, eqb-true, eqb-false, leb-false, le-leb, lt-leb}
+use borrow.Author.Tests.{eq-eqb, eqb-true, eqb-false, leb-false, le-leb, lt-leb}
 use lib.Dec.{eqb, leb}
 use Rattle.isa.specs.Reads.{choose}
 use Rattle.reference.specs.Step.{first}
