@@ -50,14 +50,20 @@ shifted-all z zero (x ∷ y ∷ elements) h = refl
 shifted-all z (suc n) (x ∷ []) h = absurd (omega arith)
 shifted-all z (suc n) (x ∷ y ∷ elements) h = ap (λ (rest : List _). y ∷ rest) (shifted-all z n (y ∷ elements) (omega arith))
 
--- one turn of the loop, on the machine
+-- one turn of the loop
+pub shift-step : (n : ℕ) (start entries : List Entry) → n + 1 < length start → entries ≡ shifted n start → set entries n (getD entries (n + 1) emptyEntry) ≡ shifted (n + 1) start
+shift-step n start entries l h =
+    ap (λ (x : List Entry). set x n (getD x (n + 1) emptyEntry)) h
+    ∙ ap (λ (j : ℕ). set (shifted n start) n (getD (shifted n start) j emptyEntry)) (add-one n)
+    ∙ shifted-more emptyEntry n start (omega arith)
+    ∙ ap (λ (j : ℕ). shifted j start) (sym (add-one n))
+
+-- the same on the machine
 pub shift-turn : (m k : Machine) (n : ℕ) → n + 1 < length (m .entries) → k ≡ withEntries (shifted n (m .entries)) m
     → withEntries (set (k .entries) n (getD (k .entries) (n + 1) emptyEntry)) k ≡ withEntries (shifted (n + 1) (m .entries)) m
 shift-turn m k n l h =
-    ap (λ (x : Machine). withEntries (set (x .entries) n (getD (x .entries) (n + 1) emptyEntry)) x) h
-    ∙ ap (λ (entries : List Entry). withEntries entries m)
-    (ap (λ (j : ℕ). set (shifted n (m .entries)) n (getD (shifted n (m .entries)) j emptyEntry)) (add-one n) ∙ shifted-more emptyEntry n (m .entries) (omega arith)
-    ∙ ap (λ (j : ℕ). shifted j (m .entries)) (sym (add-one n)))
+    ap (withEntries (set (k .entries) n (getD (k .entries) (n + 1) emptyEntry))) h
+    ∙ ap (λ (entries : List Entry). withEntries entries m) (shift-step n (m .entries) (k .entries) l (ap (λ (x : Machine). x .entries) h))
 
 -- and its end
 pub shift-done : (m k : Machine) (last : ℕ) (empty : Entry) → 0 < m .count → last ≡ m .count - 1 → m .count ≤ length (m .entries) → k ≡ withEntries (shifted last (m .entries)) m → empty ≡ emptyEntry

@@ -33,10 +33,14 @@ change-length f zero elements = refl
 change-length f (suc n) [] = refl
 change-length f (suc n) (e ∷ elements) = ap suc (change-length f n elements)
 
--- one turn of such a loop, on the machine
+-- one turn of such a loop
+pub change-step : (f : Entry → Entry) (n : ℕ) (start entries : List Entry) (e : Entry) → entries ≡ changeFirst n f start → e ≡ f (getD entries n emptyEntry) → set entries n e ≡ changeFirst (n + 1) f start
+change-step f n start entries e h g =
+    ap (set entries n) g ∙ ap (λ (x : List Entry). set x n (f (getD x n emptyEntry))) h ∙ change-more f emptyEntry n start ∙ ap (λ (j : ℕ). changeFirst j f start) (sym (add-one n))
+
+-- the same on the machine
 pub change-turn : (m k : Machine) (f : Entry → Entry) (n : ℕ) (e : Entry) → k ≡ withEntries (changeFirst n f (m .entries)) m → e ≡ f (getD (k .entries) n emptyEntry)
     → withEntries (set (k .entries) n e) k ≡ withEntries (changeFirst (n + 1) f (m .entries)) m
 change-turn m k f n e h g =
-    ap (λ (x : Entry). withEntries (set (k .entries) n x) k) g
-    ∙ ap (λ (x : Machine). withEntries (set (x .entries) n (f (getD (x .entries) n emptyEntry))) x) h
-    ∙ ap (λ (entries : List Entry). withEntries entries m) (change-more f emptyEntry n (m .entries) ∙ ap (λ (j : ℕ). changeFirst j f (m .entries)) (sym (add-one n)))
+    ap (withEntries (set (k .entries) n e)) h
+    ∙ ap (λ (entries : List Entry). withEntries entries m) (change-step f n (m .entries) (k .entries) e (ap (λ (x : Machine). x .entries) h) g)

@@ -131,10 +131,10 @@ pub fn play(machine: Machine, program: &[u8], data: &mut [u8], schedule: &[u8]) 
                     let barred = counting::refused(counts);
                     counts = barred;
                 } else {
-                    let read = ways::read(&values, data, e);
-                    entries[at] = read;
-                    let loaded = counting::accepted(counts, 0, 0, 0);
-                    counts = loaded;
+                    let loaded = ways::read(&values, data, e);
+                    entries[at] = loaded;
+                    let passed = counting::accepted(counts, 0, 0, 0);
+                    counts = passed;
                 }
             }
             Way::Complete => {

@@ -4,7 +4,6 @@ use mathlib.Core.Path.{_≡_, refl, sym, ap, _∙_}
 use mathlib.Core.Bool.{Bool, true, false, _||_}
 use mathlib.Core.List.{List, [], _∷_}
 use native.Mathlib.Omega.{arith}
-use native.Mathlib.Numerals.{add-one}
 use lib.Dec.{eqb}
 use lib.ListN.{length, getD, set}
 use lib.Seq.{getD-set-same, set-getD}
@@ -15,11 +14,7 @@ use Rattle.tables.specs.declared.Operand.{Operand}
 use Rattle.tables.specs.declared.Operand.the-variants.{Zero, Waiting, Ready}
 use Rattle.tables.specs.declared.Entry.{Entry}
 use Rattle.machine.specs.Changes.{changeFirst}
-use Rattle.machine.proofs.ChangeLaws.{change-more, change-length}
-use Rattle.machine.specs.Setters.{withEntries}
-use Rattle.machine.specs.Machine.{zeroMachine}
-use Rattle.machine.specs.declared.Machine.{Machine}
-use Rattle.committing.proofs.CommitLaws.{shifted, shift-turn}
+use Rattle.machine.proofs.ChangeLaws.{change-length, change-step}
 use Rattle.turns.specs.Ways.{nameOf}
 
 -- one of them is stored before the change or after it
@@ -62,23 +57,13 @@ change-late f g order n i entries x h l =
     ∙ ap (λ (y : Entry). set (set (changeFirst n f entries) i (f x)) i (g y)) (sym (getD-set-same (changeFirst n f entries) i (f x) emptyEntry there))
     ∙ ap (λ (k : List Entry). set k i (g (getD k i emptyEntry))) (sym before)
 
--- a turn of a loop over the entries: only the list changes
-pub change-step : (f : Entry → Entry) (n : ℕ) (start entries : List Entry) (e : Entry) → entries ≡ changeFirst n f start → e ≡ f (getD entries n emptyEntry) → set entries n e ≡ changeFirst (n + 1) f start
-change-step f n start entries e h g =
-    ap (set entries n) g ∙ ap (λ (x : List Entry). set x n (f (getD x n emptyEntry))) h ∙ change-more f emptyEntry n start ∙ ap (λ (j : ℕ). changeFirst j f start) (sym (add-one n))
-
--- a turn that finds nothing to change
+-- a turn of a loop over the entries that finds nothing to change
 pub change-skip : (f : Entry → Entry) (n : ℕ) (start entries : List Entry) → entries ≡ changeFirst n f start → getD entries n emptyEntry ≡ f (getD entries n emptyEntry) → entries ≡ changeFirst (n + 1) f start
 change-skip f n start entries h same = sym (set-getD entries n emptyEntry) ∙ change-step f n start entries (getD entries n emptyEntry) h same
 
 -- the loop's end
 pub change-end : (f : Entry → Entry) (n count : ℕ) (start entries : List Entry) → entries ≡ changeFirst n f start → n ≡ count → entries ≡ changeFirst count f start
 change-end f n count start entries h e = h ∙ ap (λ (k : ℕ). changeFirst k f start) e
-
--- a turn of the loop that moves the entries down
-pub shift-step : (n : ℕ) (start entries : List Entry) → n + 1 < length start → entries ≡ shifted n start → set entries n (getD entries (n + 1) emptyEntry) ≡ shifted (n + 1) start
-shift-step n start entries l h =
-    ap (λ (m : Machine). m .entries) (shift-turn (withEntries start zeroMachine) (withEntries entries zeroMachine) n l (ap (λ (x : List Entry). withEntries x zeroMachine) h))
 
 -- an operand that is not on the name stays
 wake-other : (name register : ℕ) (o : Operand) → eqb (nameOf o) name ≡ false → o ≡ wake name register o

@@ -5,12 +5,11 @@ use native.Mathlib.Omega.{arith}
 use borrow.Author.Needs.{needs}
 use Rattle.machine.specs.Changes.{entryAt}
 use Rattle.machine.proofs.OperationLaws.{in-range-operation}
-use Rattle.committing.proofs.CommitLaws.{shifted, shifted-none}
+use Rattle.committing.proofs.CommitLaws.{shift-step, shifted, shifted-none}
 use Rattle.turns.specs.declared.Way.the-variants.{Commit}
 use Rattle.turns.proofs.Going.{in-range, kept, roomy}
 use Rattle.turns.proofs.Turning.{settled}
 use Rattle.turns.proofs.WayLaws.{Commits}
-use Rattle.turns.proofs.EntryLaws.{shift-step}
 use Rattle.turns.proofs.EventWays.{commit-way, retired-here}
 use Rattle.playing.proofs.play.Tie as tie
 use Rattle.playing.proofs.play.Proof.Regions.{Given, at, at-most-64, entry, event, goes, going, head, here, small-counts, some-left, tables, told}

@@ -6,10 +6,10 @@ use borrow.Author.Needs.{needs}
 use lib.ListN.{getD}
 use Rattle.tables.specs.Entry.{emptyEntry}
 use Rattle.tables.specs.declared.Entry.{Entry}
-use Rattle.machine.proofs.ChangeLaws.{change-none}
+use Rattle.machine.proofs.ChangeLaws.{change-none, change-step}
 use Rattle.turns.specs.declared.Ending.the-variants.{Supplied}
 use Rattle.turns.proofs.Going.{few}
-use Rattle.turns.proofs.EntryLaws.{change-end, change-skip, change-step, wake-off}
+use Rattle.turns.proofs.EntryLaws.{change-end, change-skip, wake-off}
 use Rattle.turns.proofs.EventWays.{supply-way}
 use Rattle.playing.proofs.play.Tie as tie
 use Rattle.playing.proofs.play.Proof.Regions.{Given, at, at-most-64, completes, ended, entry, goes, going, outcome, small-counts, some-left, tables, values-long, within}

@@ -10,13 +10,13 @@ use Rattle.tables.specs.declared.Entry.{Entry}
 use Rattle.tables.proofs.TableLaws.{store-length}
 use Rattle.machine.specs.Changes.{entryAt, shows}
 use Rattle.machine.specs.declared.Machine.{Machine}
-use Rattle.machine.proofs.ChangeLaws.{change-none}
+use Rattle.machine.proofs.ChangeLaws.{change-none, change-step}
 use Rattle.stealing.specs.Steal.{victimAmong, victimOf}
 use Rattle.stealing.proofs.StealLaws.{found-at, none-at, passed-at, victim-within}
 use Rattle.turns.specs.declared.Ending.the-variants.{Steals}
 use Rattle.turns.proofs.Going.{few, inside}
 use Rattle.turns.proofs.Turning.{settled}
-use Rattle.turns.proofs.EntryLaws.{change-end, change-step}
+use Rattle.turns.proofs.EntryLaws.{change-end}
 use Rattle.turns.proofs.TheftLaws.{learnt-length}
 use Rattle.turns.proofs.EventWays.{theft-way, unsupplied-way}
 use Rattle.playing.proofs.play.Tie as tie
