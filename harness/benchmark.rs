@@ -2,12 +2,14 @@
 //! a block; then of the tables. Started by the script `benchmark`; docs/SPEED.md says what the figures mean.
 mod figures;
 mod interpreter;
+mod markdown;
 mod plain_tables;
 mod qemu;
 mod tables;
 mod timing;
 
-use figures::{at_four_places, nanoseconds, Best, Difference, Table, BEST_OF};
+use figures::{at_four_places, nanoseconds, Best, Difference, BEST_OF};
+use markdown::Table;
 use std::fs;
 use std::os::unix::fs::PermissionsExt;
 use std::path::{Path, PathBuf};

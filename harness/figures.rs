@@ -1,4 +1,4 @@
-//! How the benchmark takes its times and prints them.
+//! How the benchmark takes its times.
 use std::hint::black_box;
 use std::time::{Duration, Instant};
 
@@ -48,27 +48,6 @@ pub fn at_four_places(work: &mut dyn FnMut()) {
         lower::<1_056>(work);
         lower::<2_096>(work);
         lower::<3_136>(work);
-    }
-}
-
-/// A table of four columns, by their widths; all but the first are numbers.
-pub struct Table(pub [usize; 4]);
-
-impl Table {
-    pub fn line(&self, cells: [&str; 4]) {
-        let [a, b, c, d] = self.0;
-        println!(
-            "| {:<a$} | {:>b$} | {:>c$} | {:>d$} |",
-            cells[0], cells[1], cells[2], cells[3]
-        );
-    }
-
-    /// A title, and the columns' names.
-    pub fn head(&self, title: &str, names: [&str; 4]) {
-        println!("\n{title}\n");
-        self.line(names);
-        let [a, b, c, d] = self.0.map(|width| "-".repeat(width + 1));
-        println!("|{a}-|{b}:|{c}:|{d}:|");
     }
 }
 

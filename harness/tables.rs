@@ -1,5 +1,6 @@
 //! The times of the tables beside the same in plain Rust, in place.
-use crate::figures::{at_four_places, Best, Table};
+use crate::figures::{at_four_places, Best};
+use crate::markdown::Table;
 use crate::plain_tables as plain;
 use crate::timing;
 
