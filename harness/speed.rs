@@ -1,9 +1,11 @@
 //! Times the product's replay and the second opinion's on the same long schedules, in turn. Started by the script
-//! `speed`.
+//! `speed`; docs/SPEED.md says what the figures mean.
 mod bench;
+mod markdown;
 
-use opinion::long_run::{long_run, Long, EVENTS};
-use opinion::replay::{self, RESULT};
+use markdown::Table;
+use opinion::long_run::{long_run, Kind, Long, EVENTS};
+use opinion::replay::{self, Counts, RESULT};
 use std::hint::black_box;
 use std::time::{Duration, Instant};
 
@@ -13,6 +15,31 @@ type Replay = fn(&[u8], &mut [u8], &[u8], &mut [u8]) -> u32;
 const SAMPLES: usize = 15;
 /// A sample repeats its replay for at least this long.
 const SAMPLE: Duration = Duration::from_millis(10);
+
+/// What the events are, W and N.
+const ROWS: [(Kind, u8, u8); 13] = [
+    (Kind::Mixed, 1, 32),
+    (Kind::Mixed, 1, 64),
+    (Kind::Mixed, 1, 95),
+    (Kind::Mixed, 8, 32),
+    (Kind::Mixed, 8, 64),
+    (Kind::Mixed, 8, 95),
+    (Kind::Mixed, 64, 32),
+    (Kind::Mixed, 64, 64),
+    (Kind::Mixed, 64, 95),
+    (Kind::LoadsAndStores, 8, 64),
+    (Kind::LoadsAndStores, 64, 64),
+    (Kind::MostlyRefused, 8, 35),
+    (Kind::MostlyRefused, 64, 35),
+];
+
+fn name(kind: Kind) -> &'static str {
+    match kind {
+        Kind::Mixed => "mixed",
+        Kind::LoadsAndStores => "loads and stores",
+        Kind::MostlyRefused => "three of four refused",
+    }
+}
 
 /// The time of this many replays, each from the same data.
 fn time(replay: Replay, long: &Long, times: u32) -> Duration {
@@ -51,36 +78,88 @@ fn best(long: &Long) -> [f64; 2] {
     least
 }
 
-/// The result's words; both replays must agree on them and on the data.
-fn words(long: &Long) -> Vec<u32> {
-    let both: [Replay; 2] = [bench::replay, replay::replay];
-    let [product, opinion] = both.map(|replay| {
-        let (mut data, mut result) = (long.data.clone(), [0; RESULT]);
-        let number = replay(&long.program, &mut data, &long.schedule, &mut result);
-        (number, data, result)
-    });
-    assert!(product == opinion, "the two replays differ");
-    let word = |bytes: &[u8]| u32::from_le_bytes(bytes.try_into().expect("four bytes"));
-    opinion.2.chunks_exact(4).map(word).collect()
+/// What the second opinion counts; the product must leave the same result and data.
+fn counts(long: &Long) -> Counts {
+    let Long {
+        program,
+        data,
+        schedule,
+    } = long;
+    let (mut ours, mut result) = (data.clone(), [0; RESULT]);
+    let number = bench::replay(program, &mut ours, schedule, &mut result);
+    let (mut theirs, mut expected) = (data.clone(), [0; RESULT]);
+    let counts = replay::counted(program, &mut theirs, schedule, &mut expected);
+    let same = (number, ours, result) == (0, theirs, expected);
+    assert!(same, "the two replays differ");
+    counts.expect("a schedule that replay takes")
+}
+
+/// With a comma before the last three of more digits; a count of events has at most four.
+fn grouped(count: u32) -> String {
+    match count {
+        0..=999 => format!("{count}"),
+        _ => format!("{},{:03}", count / 1_000, count % 1_000),
+    }
+}
+
+const NAMES: [&str; 11] = [
+    "events",
+    "W",
+    "N",
+    "ns an event",
+    "million a second",
+    "second opinion, ns",
+    "ratio",
+    "committed",
+    "steals",
+    "dropped",
+    "refused",
+];
+
+/// Times a row and prints it; hands back what was counted.
+fn row(table: &Table<11>, kind: Kind, window: u8, registers: u8) -> Counts {
+    let long = long_run(kind, window, registers);
+    let counts = counts(&long);
+    let [product, opinion] = best(&long);
+    table.line([
+        name(kind),
+        &format!("{window}"),
+        &format!("{registers}"),
+        &format!("{product:.1}"),
+        &format!("{:.2}", 1e3 / product),
+        &format!("{opinion:.1}"),
+        &format!("{:.2}", product / opinion),
+        &grouped(counts.committed),
+        &grouped(counts.steals),
+        &grouped(counts.dropped),
+        &grouped(counts.answers[1..].iter().sum()),
+    ]);
+    counts
+}
+
+/// How often each of 11 to 16 refused an event, in the rows with refused ones.
+fn print_refusals(counted: &[(u8, u8, Counts)]) {
+    let table = Table([10, 5, 5, 5, 5, 5, 5]);
+    let names = ["", "11", "12", "13", "14", "15", "16"];
+    table.head("Refused events by number.", names);
+    for (window, registers, counts) in counted {
+        let sizes = format!("W {window}, N {registers}");
+        let [a, b, c, d, e, f] =
+            [11, 12, 13, 14, 15, 16].map(|number| grouped(counts.answers[number]));
+        table.line([&sizes, &a, &b, &c, &d, &e, &f]);
+    }
 }
 
 fn main() {
-    println!("{EVENTS} events a replay; nanoseconds an event, million events a second");
-    println!(" W  N | replay        | in place      | ratio | committed  steals dropped");
-    for window in [1, 8, 64] {
-        for registers in [32, 64, 95] {
-            let long = long_run(window, registers);
-            let words = words(&long);
-            let [product, opinion] = best(&long);
-            println!(
-                "{window:2} {registers:2} | {product:6.1} {:6.2} | {opinion:6.1} {:6.2} | {:5.2} | {:9} {:7} {:7}",
-                1e3 / product,
-                1e3 / opinion,
-                product / opinion,
-                words[2],
-                words[3],
-                words[4]
-            );
+    let table = Table([21, 2, 2, 11, 16, 18, 5, 9, 6, 7, 7]);
+    let events = grouped(EVENTS as u32);
+    table.head(&format!("{events} events a replay. Results agree."), NAMES);
+    let mut refused = vec![];
+    for (kind, window, registers) in ROWS {
+        let counts = row(&table, kind, window, registers);
+        if kind == Kind::MostlyRefused {
+            refused.push((window, registers, counts));
         }
     }
+    print_refusals(&refused);
 }

@@ -5,9 +5,21 @@ use crate::random::Random;
 use crate::replay;
 use crate::schedule::{self, Event};
 use crate::words::{Instruction, Operation::*};
+use std::collections::BTreeMap;
 
 /// The events of the longest file.
 pub const EVENTS: usize = 8_191;
+
+/// What the events are.
+#[derive(Clone, Copy, PartialEq, Eq)]
+pub enum Kind {
+    /// A loop of all sorts of instructions.
+    Mixed,
+    /// A loop of little but loads and stores.
+    LoadsAndStores,
+    /// Those of `Mixed`, each followed by three that are refused.
+    MostlyRefused,
+}
 
 pub struct Long {
     pub program: Vec<u8>,
@@ -17,9 +29,9 @@ pub struct Long {
 
 /// Walks 1 KiB of data again and again: loads, mixes, stores, a branch that goes by the data, a call and its return.
 #[rustfmt::skip]
-fn program() -> Vec<u8> {
+fn mixing() -> Vec<Instruction> {
     let row = Instruction::new;
-    let rows = [
+    vec![
         row(Addi, 5, 0, 0, 0),      //  0       x5 = place
         row(Addi, 6, 0, 0, 1_024),  //  4       x6 = end
         row(Lui, 7, 0, 0, 0x1_2345),//  8       x7 = mix
@@ -42,8 +54,44 @@ fn program() -> Vec<u8> {
         row(Sub, 17, 8, 9, 0),      // 76 called:
         row(Srai, 18, 17, 0, 2),    // 80
         row(Jalr, 0, 1, 0, 0),      // 84
-    ];
-    rows.iter().flat_map(|row| word_of(row).to_le_bytes()).collect()
+    ]
+}
+
+/// Copies 1 KiB of data to the next one again and again, 16 bytes a turn, by loads and stores of all sizes.
+#[rustfmt::skip]
+fn copying() -> Vec<Instruction> {
+    let row = Instruction::new;
+    vec![
+        row(Addi, 5, 0, 0, 0),      //  0       x5 = place
+        row(Addi, 6, 0, 0, 1_024),  //  4       x6 = end
+        row(Lw, 10, 5, 0, 0),       //  8 copy:
+        row(Lw, 11, 5, 0, 4),       // 12
+        row(Lh, 12, 5, 0, 8),       // 16
+        row(Lhu, 13, 5, 0, 10),     // 20
+        row(Lb, 14, 5, 0, 12),      // 24
+        row(Lbu, 15, 5, 0, 13),     // 28
+        row(Lb, 16, 5, 0, 14),      // 32
+        row(Lbu, 17, 5, 0, 15),     // 36
+        row(Sw, 0, 5, 10, 1_024),   // 40
+        row(Sw, 0, 5, 11, 1_028),   // 44
+        row(Sh, 0, 5, 12, 1_032),   // 48
+        row(Sh, 0, 5, 13, 1_034),   // 52
+        row(Sb, 0, 5, 14, 1_036),   // 56
+        row(Sb, 0, 5, 15, 1_037),   // 60
+        row(Sb, 0, 5, 16, 1_038),   // 64
+        row(Sb, 0, 5, 17, 1_039),   // 68
+        row(Addi, 5, 5, 0, 16),     // 72
+        row(Bltu, 0, 5, 6, -68),    // 76       to 8
+        row(Jal, 0, 0, 0, -80),     // 80       to 0
+    ]
+}
+
+/// The program that runs, and the length of its data.
+fn program(kind: Kind) -> (Vec<Instruction>, usize) {
+    match kind {
+        Kind::Mixed | Kind::MostlyRefused => (mixing(), 1_028),
+        Kind::LoadsAndStores => (copying(), 2_048),
+    }
 }
 
 /// A run being recorded; guesses go by where each address went the last time.
@@ -53,33 +101,67 @@ struct Recorder {
     data: Vec<u8>,
     last: Vec<u32>,
     events: Vec<Event>,
+    /// How many refused events follow each accepted one.
+    refused: usize,
+    /// Draws the refused events alone, so that the accepted ones are the same without them.
+    random: Random,
 }
 
 impl Recorder {
-    /// Makes a call and records it if it is accepted and there is room.
+    /// Makes a call and records it, with the refused ones that follow, if it is accepted and there is room.
     fn try_call(&mut self, event: Event) -> bool {
-        if self.events.len() == EVENTS
+        if self.events.len() >= EVENTS
             || replay::call(&mut self.machine, &self.program, &mut self.data, event) != 0
         {
             return false;
         }
         self.events.push(event);
+        if self.refused > 0 {
+            self.record_refused();
+        }
         true
     }
 
-    fn fill(&mut self) {
-        loop {
-            let address = self.machine.fetch();
-            let place = address as usize / 4;
-            let guess = self
-                .last
-                .get(place)
-                .copied()
-                .unwrap_or(address.wrapping_add(4));
-            if !self.try_call(schedule::decode(guess)) {
-                return;
+    /// Draws one of the numbers that refuse some event now, then events that it refuses. With a number drawn for each
+    /// event the second opinion took up to twice as long, most likely for branches that cannot be predicted.
+    fn record_refused(&mut self) {
+        let by_number = self.refused_events();
+        let number = self.random.below(by_number.len());
+        for _ in 0..self.refused {
+            self.events.push(self.random.pick(&by_number[number]));
+        }
+    }
+
+    /// The events that are refused now, those of one number together.
+    fn refused_events(&self) -> Vec<Vec<Event>> {
+        let mut by_number = BTreeMap::<u32, Vec<Event>>::new();
+        for event in self.all_events() {
+            let (mut machine, mut data) = (self.machine.clone(), self.data.clone());
+            let number = replay::call(&mut machine, &self.program, &mut data, event);
+            if number != 0 {
+                by_number.entry(number).or_default().push(event);
             }
         }
+        by_number.into_values().collect()
+    }
+
+    /// Each call at each entry, and at the first place without one.
+    fn all_events(&self) -> Vec<Event> {
+        let mut events = vec![schedule::decode(self.guess()), schedule::commit()];
+        for position in 0..=self.machine.count() as u8 {
+            events.extend([schedule::issue(position), schedule::complete(position)]);
+        }
+        events
+    }
+
+    fn guess(&self) -> u32 {
+        let address = self.machine.fetch();
+        let went = self.last.get(address as usize / 4);
+        went.copied().unwrap_or(address.wrapping_add(4))
+    }
+
+    fn fill(&mut self) {
+        while self.try_call(schedule::decode(self.guess())) {}
     }
 
     fn issue_ready(&mut self) {
@@ -111,18 +193,22 @@ impl Recorder {
     }
 }
 
-pub fn long_run(window: u8, registers: u8) -> Long {
-    let mut random = Random::new(window as u64 * 256 + registers as u64);
-    let program = program();
-    let data = random.bytes(1_028);
+pub fn long_run(kind: Kind, window: u8, registers: u8) -> Long {
+    let seed = window as u64 * 256 + registers as u64;
+    let mut random = Random::new(seed);
+    let (instructions, length) = program(kind);
+    let data = random.bytes(length);
+    let words = instructions.iter().map(word_of);
     let mut recorder = Recorder {
         machine: Machine::new(window as usize, registers as usize),
-        last: (0..program.len() as u32 / 4)
+        last: (0..instructions.len() as u32)
             .map(|place| place * 4 + 4)
             .collect(),
-        program: program.clone(),
+        program: words.flat_map(u32::to_le_bytes).collect(),
         data: data.clone(),
         events: vec![],
+        refused: if kind == Kind::MostlyRefused { 3 } else { 0 },
+        random: Random::new(seed),
     };
     while recorder.events.len() < EVENTS {
         recorder.fill();
@@ -130,10 +216,10 @@ pub fn long_run(window: u8, registers: u8) -> Long {
         recorder.complete_issued(random.percent(25));
         while recorder.try_call(schedule::commit()) {}
     }
-    let schedule = schedule::in_order(window, registers, &recorder.events);
+    recorder.events.truncate(EVENTS);
     Long {
-        program,
+        program: recorder.program,
         data,
-        schedule,
+        schedule: schedule::in_order(window, registers, &recorder.events),
     }
 }

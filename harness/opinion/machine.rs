@@ -16,6 +16,7 @@ const NUMBERS: usize = 96;
 const PLACES: usize = 64;
 
 /// A pool as a chain: taking takes the head, freeing puts at the head.
+#[derive(Clone)]
 struct FreeList {
     head: u8,
     next: [u8; NUMBERS],
@@ -91,6 +92,7 @@ struct Entry {
     cause: u8,
 }
 
+#[derive(Clone)]
 pub struct Machine {
     window: usize,
     names: FreeList,
