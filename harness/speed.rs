@@ -12,9 +12,9 @@ use std::time::{Duration, Instant};
 type Replay = fn(&[u8], &mut [u8], &[u8], &mut [u8]) -> u32;
 
 /// Samples of each replay, taken in turn; the least time counts, since others only add to it.
-const SAMPLES: usize = 15;
-/// A sample repeats its replay for at least this long.
-const SAMPLE: Duration = Duration::from_millis(10);
+const SAMPLES: usize = 150;
+/// A sample repeats its replay for at least this long. It is short: one that nothing else disturbs is soon among them.
+const SAMPLE: Duration = Duration::from_millis(1);
 
 /// What the events are, W and N.
 const ROWS: [(Kind, u8, u8); 13] = [
