@@ -284,10 +284,11 @@ pub fn play(machine: Machine, program: &[u8], data: &mut [u8], schedule: &[u8]) 
             }
         }
     }
+    let occupied = count as u8;
     Played {
         machine: Machine {
             setup,
-            count: count as u8,
+            count: occupied,
             entries,
             mapname,
             mapregister,

@@ -12,6 +12,7 @@ mod Settle
 mod Stop
 mod Supply
 mod Theft
+
 use mathlib.Core.Path.{refl}
 use mathlib.Core.Logic.{⊎-elim}
 use native.Mathlib.Omega.{arith}
@@ -82,8 +83,8 @@ way-of-requires : Given tie.Need-way-of-requires
 way-of-requires c κs =
     λ h. in-range-operation (machine (c .before .before .before .before .before .before .before)) _ (in-range (turn-going (c .before .before .before .before .before .before))) (let p = c .before .place .ensures .2 in omega arith)
 
-cast-t207 : Given tie.Need-cast-t207
-cast-t207 c =
+cast-occupied : Given tie.Need-cast-occupied
+cast-occupied c =
     let f = at-most-64 (c .before .before) in record { fits = omega arith }
 
 same-length : Given tie.Need-same-length
@@ -277,6 +278,6 @@ play-spec =
     refused-requires-3
     turns-less-13
     turns-again-13
-    cast-t207
+    cast-occupied
     same-length
     returns)

@@ -105,10 +105,9 @@ turns-again-11 c =
     let t = commits (c .before .before .before .before .before .before .before .before .before .before .before .before .before) in
     let u = c .before .before .before .before .retire .ensures in
     let l = (c .before .before .before) .shift in
-    let end : l .j ≡ (c .before .before .before .before .before .before .before .before .before .before .before .before .before .before .before .before .before .before .before .before .before .before .before) .turns .count - 1 = let x = l .inv .0 in let y = (c .before .before) .shift-test .left in omega arith in (
-      c .before .before .before .before .before .before .before .before .before .before .store .kept .1 .0 ∙ (c .before .before .before .before .before .before .before .before .before .before .before .before .before .before .before .before .before .before .before .before .before .before .before) .turns .inv .0,
-      settled (omega arith)
-          (goes p _
-          (commit-way (going p) _ _ (at p) (t .0) (t .1) (c .accepted8 .ensures) _ (c .before .before .before .before .before .before .before .before .before .before .store .ensures) _
-          (retired-here (here p) (entry p) _ _ _ _ _ _ _ (t .0 .there) (roomy (going p)) (ap (entryAt (here p)) (t .0 .oldest)) (u .3) (u .1) (u .0) (u .4) (u .2) (l .inv .1 ∙ ap (λ (n : ℕ). shifted n ((c .before .before .before .before .before .before .before .before .before .before .before .before .before .before .before .before .before .before .before .before .before .before .before) .turns .entries)) end) (c .before .empty2 .ensures)))),
-    )
+    let end : l .j ≡ (c .before .before .before .before .before .before .before .before .before .before .before .before .before .before .before .before .before .before .before .before .before .before .before) .turns .count - 1 = let x = l .inv .0 in let y = (c .before .before) .shift-test .left in omega arith in
+    (c .before .before .before .before .before .before .before .before .before .before .store .kept .1 .0 ∙ (c .before .before .before .before .before .before .before .before .before .before .before .before .before .before .before .before .before .before .before .before .before .before .before) .turns .inv .0,
+    settled (omega arith)
+    (goes p _
+    (commit-way (going p) _ _ (at p) (t .0) (t .1) (c .accepted8 .ensures) _ (c .before .before .before .before .before .before .before .before .before .before .store .ensures) _
+    (retired-here (here p) (entry p) _ _ _ _ _ _ _ (t .0 .there) (roomy (going p)) (ap (entryAt (here p)) (t .0 .oldest)) (u .3) (u .1) (u .0) (u .4) (u .2) (l .inv .1 ∙ ap (λ (n : ℕ). shifted n ((c .before .before .before .before .before .before .before .before .before .before .before .before .before .before .before .before .before .before .before .before .before .before .before) .turns .entries)) end) (c .before .empty2 .ensures)))))

@@ -58,8 +58,7 @@ turns-less-2 c =
 pub turns-again-2 : Given tie.Need-turns-again-2
 turns-again-2 c =
     let p = c .before .before .before .before .before .before .before .before .before .before .before .before in
-    let u = c .before .rename .ensures in (
-      (c .before .before .before .before .before .before .before .before .before .before .before .before .before .before .before .before .before .before .before .before) .turns .inv .0,
-      settled (omega arith)
-          (goes p _ (decode-way (going p) _ _ (decodes (c .before .before .before .before .before .before .before .before .before .before)) (c .accepted .ensures) _ _ _ _ _ _ (c .before .before .before .before .before .before .entry-for .ensures) (u .0) (u .1) (u .2) (u .3) (u .4))),
-    )
+    let u = c .before .rename .ensures in
+    ((c .before .before .before .before .before .before .before .before .before .before .before .before .before .before .before .before .before .before .before .before) .turns .inv .0,
+    settled (omega arith)
+    (goes p _ (decode-way (going p) _ _ (decodes (c .before .before .before .before .before .before .before .before .before .before)) (c .accepted .ensures) _ _ _ _ _ _ (c .before .before .before .before .before .before .entry-for .ensures) (u .0) (u .1) (u .2) (u .3) (u .4))))

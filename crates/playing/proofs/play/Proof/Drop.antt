@@ -41,21 +41,20 @@ turns-less c =
 
 pub turns-again : Given tie.Need-turns-again
 turns-again c =
-    let u = c .restore in (
-      (c .before .before .before .before .before .before .before .before .before .before) .turns .inv .0,
-      drops-on ((c .before .before .before .before .before .before .before .before .before .before) .turns .inv .1) (c .before .before .before .before .before .before .before .before .before .if1 .taken) _
-          (dropped (machine (c .before .before .before .before .before .before .before .before .before .before)) (c .before .before .before .before .before .before .before .empty .result) _ (u .result .register) (u .result .name) _ _ _ _ _ _ _
-          (record {
-            isempty = c .before .before .before .before .before .before .before .empty .ensures;
-            isregister = refl;
-            isregisterhead = u .ensures .6;
-            isregisterlink = u .ensures .4;
-            isphysical = u .ensures .3;
-            isnamehead = u .ensures .7;
-            isnamelink = u .ensures .5;
-            isback = refl;
-            ismapname = u .ensures .0;
-            ismapregister = u .ensures .1;
-            ismapvalid = u .ensures .2;
-          })),
-    )
+    let u = c .restore in
+    ((c .before .before .before .before .before .before .before .before .before .before) .turns .inv .0,
+    drops-on ((c .before .before .before .before .before .before .before .before .before .before) .turns .inv .1) (c .before .before .before .before .before .before .before .before .before .if1 .taken) _
+    (dropped (machine (c .before .before .before .before .before .before .before .before .before .before)) (c .before .before .before .before .before .before .before .empty .result) _ (u .result .register) (u .result .name) _ _ _ _ _ _ _
+    (record {
+      isempty = c .before .before .before .before .before .before .before .empty .ensures;
+      isregister = refl;
+      isregisterhead = u .ensures .6;
+      isregisterlink = u .ensures .4;
+      isphysical = u .ensures .3;
+      isnamehead = u .ensures .7;
+      isnamelink = u .ensures .5;
+      isback = refl;
+      ismapname = u .ensures .0;
+      ismapregister = u .ensures .1;
+      ismapvalid = u .ensures .2;
+    })))

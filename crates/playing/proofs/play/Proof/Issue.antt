@@ -44,7 +44,6 @@ turns-less-3 c =
 pub turns-again-3 : Given tie.Need-turns-again-3
 turns-again-3 c =
     let p = c .before .before .before .before .before .before in
-    let i = issues (c .before .before .before .before) in (
-      (c .before .before .before .before .before .before .before .before .before .before .before .before .before .before) .turns .inv .0,
-      settled (c .before .before .before .before .before .before .before .before .before .before .before .before .before .if1 .left) (goes p _ (issue-way (going p) _ _ (at p) (i .call) (i .accepted) (c .accepted2 .ensures) _ (c .before .read .ensures))),
-    )
+    let i = issues (c .before .before .before .before) in
+    ((c .before .before .before .before .before .before .before .before .before .before .before .before .before .before) .turns .inv .0,
+    settled (c .before .before .before .before .before .before .before .before .before .before .before .before .before .if1 .left) (goes p _ (issue-way (going p) _ _ (at p) (i .call) (i .accepted) (c .accepted2 .ensures) _ (c .before .read .ensures))))

@@ -84,11 +84,10 @@ turns-less-5 c =
 pub turns-again-4 : Given tie.Need-turns-again-4
 turns-again-4 c =
     let p = c .before .before .before .before .before .before in
-    let l = loads (c .before .before .before .before) in (
-      (c .before .before .before .before .before .before .before .before .before .before .before .before .before .before) .turns .inv .0,
-      settled (c .before .before .before .before .before .before .before .before .before .before .before .before .before .if1 .left)
-          (goes p _ (barred-way (going p) _ _ (issue (at p)) 15 (l .call) (l .barred (sym (seen (c .before .before)) ∙ c .before .if4 .taken)) (eqb-false 15 0 refl) (c .refused .ensures))),
-    )
+    let l = loads (c .before .before .before .before) in
+    ((c .before .before .before .before .before .before .before .before .before .before .before .before .before .before) .turns .inv .0,
+    settled (c .before .before .before .before .before .before .before .before .before .before .before .before .before .if1 .left)
+    (goes p _ (barred-way (going p) _ _ (issue (at p)) 15 (l .call) (l .barred (sym (seen (c .before .before)) ∙ c .before .if4 .taken)) (eqb-false 15 0 refl) (c .refused .ensures))))
 
 pub read-requires-2 : Given tie.Need-read-requires-2
 read-requires-2 c κs =
@@ -109,8 +108,7 @@ accepted-requires-3 c κs =
 pub turns-again-5 : Given tie.Need-turns-again-5
 turns-again-5 c =
     let p = c .before .before .before .before .before .before .before .before .before in
-    let l = loads (c .before .before .before .before .before .before .before) in (
-      (c .before .before .before .before .before .before .before .before .before .before .before .before .before .before .before .before .before) .turns .inv .0,
-      settled (c .before .before .before .before .before .before .before .before .before .before .before .before .before .before .before .before .if1 .left)
-          (goes p _ (issue-way (going p) _ _ (at p) (l .call) (l .accepted (sym (seen (c .before .before .before .before .before)) ∙ c .before .before .before .before .if4 .left)) (c .accepted3 .ensures) _ (c .before .read2 .ensures))),
-    )
+    let l = loads (c .before .before .before .before .before .before .before) in
+    ((c .before .before .before .before .before .before .before .before .before .before .before .before .before .before .before .before .before) .turns .inv .0,
+    settled (c .before .before .before .before .before .before .before .before .before .before .before .before .before .before .before .before .if1 .left)
+    (goes p _ (issue-way (going p) _ _ (at p) (l .call) (l .accepted (sym (seen (c .before .before .before .before .before)) ∙ c .before .before .before .before .if4 .left)) (c .accepted3 .ensures) _ (c .before .read2 .ensures))))

@@ -21,7 +21,6 @@ turns-less-13 c =
 
 pub turns-again-13 : Given tie.Need-turns-again-13
 turns-again-13 c =
-    let p = c .before .before .before in (
-      (c .before .before .before .before .before .before .before .before .before .before .before) .turns .inv .0,
-      settled (c .before .before .before .before .before .before .before .before .before .before .if1 .left) (goes p _ (refused-way (going p) _ _ (told p Refused (c .before .enum-told11 .given .1) .some) (c .refused3 .ensures))),
-    )
+    let p = c .before .before .before in
+    ((c .before .before .before .before .before .before .before .before .before .before .before) .turns .inv .0,
+    settled (c .before .before .before .before .before .before .before .before .before .before .if1 .left) (goes p _ (refused-way (going p) _ _ (told p Refused (c .before .enum-told11 .given .1) .some) (c .refused3 .ensures))))

@@ -51,12 +51,11 @@ pub turns-again-7 : Given tie.Need-turns-again-7
 turns-again-7 c =
     let p = c .before .before .before .before .before .before .before .before .before .before in
     let q = c .before .before .before .before .before .before in
-    let s = ended q WithoutDestination (c .before .before .before .before .enum-told6 .given .1) in (
-      (c .before .before .before .before .before .before .before .before .before .before .before .before .before .before .before .before .before .before) .turns .inv .0,
-      record {
-        few = at-most-64 (c .before .before .before .before .before .before .before .before .before .before .before .before .before .before .before .before .before .before);
-        going = goes p _
-            (settle-way (going p) _ _ (at p) (completes q) (outcome q) (c .before .before .before .before .before .before .before .outcome .ensures) (s .0) (s .1) _ (c .before .before .before .finished .ensures)
-            _ (c .before .fetch-after .ensures) _ (c .before .before .kept-after .ensures .0) (c .accepted5 .ensures));
-      },
-    )
+    let s = ended q WithoutDestination (c .before .before .before .before .enum-told6 .given .1) in
+    ((c .before .before .before .before .before .before .before .before .before .before .before .before .before .before .before .before .before .before) .turns .inv .0,
+    record {
+      few = at-most-64 (c .before .before .before .before .before .before .before .before .before .before .before .before .before .before .before .before .before .before);
+      going = goes p _
+          (settle-way (going p) _ _ (at p) (completes q) (outcome q) (c .before .before .before .before .before .before .before .outcome .ensures) (s .0) (s .1) _ (c .before .before .before .finished .ensures)
+          _ (c .before .fetch-after .ensures) _ (c .before .before .kept-after .ensures .0) (c .accepted5 .ensures));
+    })

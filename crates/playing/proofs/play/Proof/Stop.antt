@@ -34,8 +34,7 @@ turns-less-6 c =
 pub turns-again-6 : Given tie.Need-turns-again-6
 turns-again-6 c =
     let p = c .before .before .before .before .before .before .before .before .before in
-    let q = c .before .before .before .before .before in (
-      (c .before .before .before .before .before .before .before .before .before .before .before .before .before .before .before .before .before) .turns .inv .0,
-      settled (c .before .before .before .before .before .before .before .before .before .before .before .before .before .before .before .before .if1 .left)
-          (goes p _ (stop-way (going p) _ _ (at p) (completes q) (outcome q) (c .before .before .before .before .before .before .outcome .ensures) (ended q Stops (c .before .before .before .enum-told5 .given .1)) (c .accepted4 .ensures) _ (c .before .stopped .ensures))),
-    )
+    let q = c .before .before .before .before .before in
+    ((c .before .before .before .before .before .before .before .before .before .before .before .before .before .before .before .before .before) .turns .inv .0,
+    settled (c .before .before .before .before .before .before .before .before .before .before .before .before .before .before .before .before .if1 .left)
+    (goes p _ (stop-way (going p) _ _ (at p) (completes q) (outcome q) (c .before .before .before .before .before .before .outcome .ensures) (ended q Stops (c .before .before .before .enum-told5 .given .1)) (c .accepted4 .ensures) _ (c .before .stopped .ensures))))

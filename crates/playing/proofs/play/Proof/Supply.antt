@@ -86,11 +86,10 @@ pub wake-again : Given tie.Need-wake-again
 wake-again c =
     let l = (c .before .before .before .before) .wake in
     let t = (c .before .before .before) .wake-test .taken in
-    let x : Entry = getD (l .entries) (l .k) emptyEntry in (
-      omega arith,
-      ⊎-elim (λ w. w .2 ∙ change-step _ (l .k) _ _ _ (l .inv .1) (w .1 .ensures))
-          (λ w. w .1 ∙ change-skip _ (l .k) _ _ (l .inv .1) (wake-off (entry (c .before .before .before .before .before .before .before .before .before .before .before .before .before .before .before .before .before .before .before .before .before) .name) ((c .before .before .before .before .before .before .before .before .before .before .before .before .before .before .before .before .before .before .before .before .before .before .before .before .before .before .before .before .before) .turns .registerhead) x (sym (c .before .is-on .ensures) ∙ w .0 .left))) (c .if5 .came),
-    )
+    let x : Entry = getD (l .entries) (l .k) emptyEntry in
+    (omega arith,
+    ⊎-elim (λ w. w .2 ∙ change-step _ (l .k) _ _ _ (l .inv .1) (w .1 .ensures))
+    (λ w. w .1 ∙ change-skip _ (l .k) _ _ (l .inv .1) (wake-off (entry (c .before .before .before .before .before .before .before .before .before .before .before .before .before .before .before .before .before .before .before .before .before) .name) ((c .before .before .before .before .before .before .before .before .before .before .before .before .before .before .before .before .before .before .before .before .before .before .before .before .before .before .before .before .before) .turns .registerhead) x (sym (c .before .is-on .ensures) ∙ w .0 .left))) (c .if5 .came))
 
 pub kept-after-requires-2 : Given tie.Need-kept-after-requires-2
 kept-after-requires-2 c κs =
@@ -119,13 +118,12 @@ turns-again-8 c =
     let s = ended q Supplied (c .before .before .before .before .before .before .before .before .before .before .before .before .before .before .before .enum-told7 .given .1) in
     let u = c .before .before .before .before .before .before .before .before .before .learn .ensures in
     let l = (c .before .before .before .before) .wake in
-    let end : l .k ≡ (c .before .before .before .before .before .before .before .before .before .before .before .before .before .before .before .before .before .before .before .before .before .before .before .before .before .before .before .before .before) .turns .count = let x = l .inv .0 in let y = (c .before .before .before) .wake-test .left in omega arith in (
-      (c .before .before .before .before .before .before .before .before .before .before .before .before .before .before .before .before .before .before .before .before .before .before .before .before .before .before .before .before .before) .turns .inv .0,
-      record {
-        few = at-most-64 (c .before .before .before .before .before .before .before .before .before .before .before .before .before .before .before .before .before .before .before .before .before .before .before .before .before .before .before .before .before);
-        going = goes p _
-            (supply-way (going p) _ _ (at p) (completes q) (outcome q) (c .before .before .before .before .before .before .before .before .before .before .before .before .before .before .before .before .before .before .outcome .ensures) (s .0) (s .1) (s .2) _ (c .before .before .before .before .before .before .before .before .before .before .before .before .before .before .finished2 .ensures) _ _ _ _ _ _ _
-            (change-end _ _ _ _ _ (l .inv .1) end) (u .0) (u .1) (u .2) (c .before .before .before .before .before .before .before .store-value .ensures) (c .before .before .before .before .before .take .ensures .0) (c .before .before .before .before .before .take .ensures .1)
-            _ (c .before .fetch-after2 .ensures) _ (c .before .before .kept-after2 .ensures .0) (c .accepted6 .ensures));
-      },
-    )
+    let end : l .k ≡ (c .before .before .before .before .before .before .before .before .before .before .before .before .before .before .before .before .before .before .before .before .before .before .before .before .before .before .before .before .before) .turns .count = let x = l .inv .0 in let y = (c .before .before .before) .wake-test .left in omega arith in
+    ((c .before .before .before .before .before .before .before .before .before .before .before .before .before .before .before .before .before .before .before .before .before .before .before .before .before .before .before .before .before) .turns .inv .0,
+    record {
+      few = at-most-64 (c .before .before .before .before .before .before .before .before .before .before .before .before .before .before .before .before .before .before .before .before .before .before .before .before .before .before .before .before .before);
+      going = goes p _
+          (supply-way (going p) _ _ (at p) (completes q) (outcome q) (c .before .before .before .before .before .before .before .before .before .before .before .before .before .before .before .before .before .before .outcome .ensures) (s .0) (s .1) (s .2) _ (c .before .before .before .before .before .before .before .before .before .before .before .before .before .before .finished2 .ensures) _ _ _ _ _ _ _
+          (change-end _ _ _ _ _ (l .inv .1) end) (u .0) (u .1) (u .2) (c .before .before .before .before .before .before .before .store-value .ensures) (c .before .before .before .before .before .take .ensures .0) (c .before .before .before .before .before .take .ensures .1)
+          _ (c .before .fetch-after2 .ensures) _ (c .before .before .kept-after2 .ensures .0) (c .accepted6 .ensures));
+    })

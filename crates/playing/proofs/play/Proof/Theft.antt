@@ -115,11 +115,10 @@ pub turns-again-9 : Given tie.Need-turns-again-9
 turns-again-9 c =
     let p = c .before .before .before .before .before .before .before .before .before .before in
     let q = c .before .before .before .before .before .before in
-    let s = ended q Steals (c .before .before .before .before .enum-told8 .given .1) in (
-      (c .before .before .before .before .before .before .before .before .before .before .before .before .before .before .before .before .before .before) .turns .inv .0,
-      settled (c .before .before .before .before .before .before .before .before .before .before .before .before .before .before .before .before .before .if1 .left)
-          (goes p _ (unsupplied-way (going p) _ _ (at p) (completes q) (outcome q) (c .before .before .before .before .before .before .before .outcome .ensures) (s .0) (s .1) (s .2) (sym (found (c .before .before)) ∙ c .before .if8 .taken) (c .refused2 .ensures))),
-    )
+    let s = ended q Steals (c .before .before .before .before .enum-told8 .given .1) in
+    ((c .before .before .before .before .before .before .before .before .before .before .before .before .before .before .before .before .before .before) .turns .inv .0,
+    settled (c .before .before .before .before .before .before .before .before .before .before .before .before .before .before .before .before .before .if1 .left)
+    (goes p _ (unsupplied-way (going p) _ _ (at p) (completes q) (outcome q) (c .before .before .before .before .before .before .before .outcome .ensures) (s .0) (s .1) (s .2) (sym (found (c .before .before)) ∙ c .before .if8 .taken) (c .refused2 .ensures))))
 
 pub mul-owner : Given tie.Need-mul-owner
 mul-owner c =
@@ -224,14 +223,13 @@ turns-again-10 c =
     let lost = c .before .before .before .before .before .before .before .before .before .before .before .before .before .learn2 .ensures in
     let new = c .before .before .before .before .before .before .before .learn3 .ensures in
     let l = (c .before .before .before .before) .pass in
-    let end : l .j ≡ (c .before .before .before .before .before .before .before .before .before .before .before .before .before .before .before .before .before .before .before .before .before .before .before .before .before .before .before .before .before .before .before .before .before .before .before .before .before .before .before .before) .turns .count = let x = l .inv .0 in let y = (c .before .before .before) .pass-test .left in omega arith in (
-      (c .before .before .before .before .before .before .before .before .before .before .before .before .before .before .before .before .before .before .before .before .before .before .before .before .before .before .before .before .before .before .before .before .before .before .before .before .before .before .before .before) .turns .inv .0,
-      record {
-        few = at-most-64 (c .before .before .before .before .before .before .before .before .before .before .before .before .before .before .before .before .before .before .before .before .before .before .before .before .before .before .before .before .before .before .before .before .before .before .before .before .before .before .before .before);
-        going = goes p _
-            (theft-way (going p) _ _ (at p) (completes q) (outcome q) (c .before .before .before .before .before .before .before .before .before .before .before .before .before .before .before .before .before .before .before .before .before .before .before .before .before .before .before .before .before .outcome .ensures) (s .0) (s .1) (s .2) _ (found (c .before .before .before .before .before .before .before .before .before .before .before .before .before .before .before .before .before .before .before .before .before .before .before .before)) (c .before .before .before .before .before .before .before .before .before .before .before .before .before .before .before .before .before .before .before .before .before .before .before .if8 .left) _ (c .before .before .before .before .before .before .before .before .before .before .before .before .before .before .before .before .before .before .before .held2 .ensures)
-            _ _ (c .before .before .before .before .before .before .before .before .before .before .before .before .before .before .before .before .before .before .waiting .ensures) (c .before .before .before .before .before .before .before .before .before .before .before .before .finished3 .ensures) _ _ _ _ _ _ _ _
-            (change-end _ _ _ _ _ (l .inv .1) end) (lost .0) (lost .1) (lost .2) (new .0) (new .1) (new .2) (c .before .before .before .before .before .store-value2 .ensures)
-            _ (c .before .fetch-after3 .ensures) _ (c .before .before .kept-after3 .ensures .0) (c .accepted7 .ensures));
-      },
-    )
+    let end : l .j ≡ (c .before .before .before .before .before .before .before .before .before .before .before .before .before .before .before .before .before .before .before .before .before .before .before .before .before .before .before .before .before .before .before .before .before .before .before .before .before .before .before .before) .turns .count = let x = l .inv .0 in let y = (c .before .before .before) .pass-test .left in omega arith in
+    ((c .before .before .before .before .before .before .before .before .before .before .before .before .before .before .before .before .before .before .before .before .before .before .before .before .before .before .before .before .before .before .before .before .before .before .before .before .before .before .before .before) .turns .inv .0,
+    record {
+      few = at-most-64 (c .before .before .before .before .before .before .before .before .before .before .before .before .before .before .before .before .before .before .before .before .before .before .before .before .before .before .before .before .before .before .before .before .before .before .before .before .before .before .before .before);
+      going = goes p _
+          (theft-way (going p) _ _ (at p) (completes q) (outcome q) (c .before .before .before .before .before .before .before .before .before .before .before .before .before .before .before .before .before .before .before .before .before .before .before .before .before .before .before .before .before .outcome .ensures) (s .0) (s .1) (s .2) _ (found (c .before .before .before .before .before .before .before .before .before .before .before .before .before .before .before .before .before .before .before .before .before .before .before .before)) (c .before .before .before .before .before .before .before .before .before .before .before .before .before .before .before .before .before .before .before .before .before .before .before .if8 .left) _ (c .before .before .before .before .before .before .before .before .before .before .before .before .before .before .before .before .before .before .before .held2 .ensures)
+          _ _ (c .before .before .before .before .before .before .before .before .before .before .before .before .before .before .before .before .before .before .waiting .ensures) (c .before .before .before .before .before .before .before .before .before .before .before .before .finished3 .ensures) _ _ _ _ _ _ _ _
+          (change-end _ _ _ _ _ (l .inv .1) end) (lost .0) (lost .1) (lost .2) (new .0) (new .1) (new .2) (c .before .before .before .before .before .store-value2 .ensures)
+          _ (c .before .fetch-after3 .ensures) _ (c .before .before .kept-after3 .ensures .0) (c .accepted7 .ensures));
+    })
