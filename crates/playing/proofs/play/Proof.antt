@@ -12,7 +12,6 @@ mod Settle
 mod Stop
 mod Supply
 mod Theft
-
 use mathlib.Core.Path.{refl}
 use mathlib.Core.Logic.{⊎-elim}
 use native.Mathlib.Omega.{arith}
@@ -23,7 +22,7 @@ use Rattle.machine.proofs.OperationLaws.{in-range-operation}
 use Rattle.turns.proofs.Going.{begins, chain-ends, ends, in-range, inside}
 use Rattle.turns.proofs.Turning.{settled}
 use Rattle.playing.proofs.play.Tie as tie
-use Rattle.playing.proofs.play.Proof.Regions.{Given, Inv-older, Inv-pass, Inv-search, Inv-shift, Inv-turns, Inv-wake, at-most-64, machine, turn-going, μ-older, μ-pass, μ-search, μ-shift, μ-turns, μ-wake}
+use Rattle.playing.proofs.play.Proof.Regions.{Given, Inv-older, Inv-pass, Inv-search, Inv-shift, Inv-turns, Inv-wake, few-at, machine, turn-going, μ-older, μ-pass, μ-search, μ-shift, μ-turns, μ-wake}
 use Rattle.playing.proofs.play.Proof.Commit.{enum-told-9, empty-requires-2, store-requires, retire-requires, sub-count-2, shift-holds, add-y, mul-y, array-copy-out-y, mul-entries-12, array-set-from-entries-12, add-j-2, shift-less, shift-again, mul-entries-13, array-set-from-entries-13, accepted-requires-8, turns-less-11, turns-again-11}
 use Rattle.playing.proofs.play.Proof.Complete.{enum-told-4, outcome-requires, ending-of-requires}
 use Rattle.playing.proofs.play.Proof.Decode.{enum-told, entry-for-requires, rename-requires, mul-entries-2, add-count, array-set-from-entries-2, accepted-requires, turns-less-2, turns-again-2}
@@ -85,7 +84,7 @@ way-of-requires c κs =
 
 cast-occupied : Given tie.Need-cast-occupied
 cast-occupied c =
-    let f = at-most-64 (c .before .before) in record { fits = omega arith }
+    let f = few-at (c .before .before) in record { fits = omega arith }
 
 same-length : Given tie.Need-same-length
 same-length c =

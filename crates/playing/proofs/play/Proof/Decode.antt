@@ -8,7 +8,7 @@ use Rattle.turns.proofs.Turning.{settled}
 use Rattle.turns.proofs.WayLaws.{Decodes}
 use Rattle.turns.proofs.EventWays.{decode-way}
 use Rattle.playing.proofs.play.Tie as tie
-use Rattle.playing.proofs.play.Proof.Regions.{Given, at, event, goes, going, head, here, small-counts, some-left, tables, told}
+use Rattle.playing.proofs.play.Proof.Regions.{Given, at, data-kept, event, goes, going, head, here, small-counts, some-left, tables, told}
 
 module _ (p : Given tie.After-enum-told) where
   abbrev chosen : Given tie.After-way-of
@@ -29,11 +29,11 @@ enum-told c =
 
 pub entry-for-requires : Given tie.Need-entry-for-requires
 entry-for-requires c κs =
-    let l = tables (c .before .before .before .before .before .before .before .before .before .before .before .before .before) in (l .mapname, l .mapregister, l .mapvalid)
+    let l = tables (c .before .before .before .before .before) in (l .mapname, l .mapregister, l .mapvalid)
 
 pub rename-requires : Given tie.Need-rename-requires
 rename-requires c κs =
-    let l = tables (c .before .before .before .before .before .before .before .before .before .before .before .before .before .before .before .before .before .before) in (l .mapname, l .mapregister, l .mapvalid, l .namelink)
+    let l = tables (c .before .before .before .before .before .before .before .before .before .before) in (l .mapname, l .mapregister, l .mapvalid, l .namelink)
 
 pub mul-entries-2 : Given tie.Need-mul-entries-2
 mul-entries-2 c =
@@ -58,7 +58,8 @@ turns-less-2 c =
 pub turns-again-2 : Given tie.Need-turns-again-2
 turns-again-2 c =
     let p = c .before .before .before .before .before .before .before .before .before .before .before .before in
-    let u = c .before .rename .ensures in
-    ((c .before .before .before .before .before .before .before .before .before .before .before .before .before .before .before .before .before .before .before .before) .turns .inv .0,
-    settled (omega arith)
-    (goes p _ (decode-way (going p) _ _ (decodes (c .before .before .before .before .before .before .before .before .before .before)) (c .accepted .ensures) _ _ _ _ _ _ (c .before .before .before .before .before .before .entry-for .ensures) (u .0) (u .1) (u .2) (u .3) (u .4))))
+    let u = c .before .rename .ensures in (
+      data-kept p,
+      settled (omega arith)
+          (goes p _ (decode-way (going p) _ _ (decodes (c .before .before .before .before .before .before .before .before .before .before)) (c .accepted .ensures) _ _ _ _ _ _ (c .before .before .before .before .before .before .entry-for .ensures) (u .0) (u .1) (u .2) (u .3) (u .4))),
+    )

@@ -3,11 +3,10 @@ use mathlib.Core.Path.{_≡_}
 use native.Mathlib.Omega.{arith}
 use borrow.Author.Needs.{needs}
 use Rattle.turns.specs.declared.Way.the-variants.{Halt}
-use Rattle.turns.proofs.Going.{few}
 use Rattle.turns.proofs.WayLaws.{Commits}
 use Rattle.turns.proofs.EventWays.{halt-way}
 use Rattle.playing.proofs.play.Tie as tie
-use Rattle.playing.proofs.play.Proof.Regions.{Given, at, at-most-64, entry, event, goes, going, here, small-counts, some-left, told}
+use Rattle.playing.proofs.play.Proof.Regions.{Given, at, data-kept, entry, event, few, goes, going, here, small-counts, some-left, told}
 
 module _ (p : Given tie.After-enum-told10) where
   abbrev chosen : Given tie.After-way-of
@@ -26,18 +25,18 @@ sub-accepted-4 c =
 
 pub cast-accepted-4 : Given tie.Need-cast-accepted-4
 cast-accepted-4 c =
-    let f = at-most-64 (c .before .before .before .before .before .before .before .before .before .before .before) in record { fits = omega arith }
+    let f = few (c .before .before .before) in record { fits = omega arith }
 
 pub accepted-requires-9 : Given tie.Need-accepted-requires-9
 accepted-requires-9 c κs =
-    (small-counts (c .before .before .before), omega arith, omega arith, let f = at-most-64 (c .before .before .before .before .before .before .before .before .before .before .before) in omega arith)
+    (small-counts (c .before .before .before), omega arith, omega arith, let f = few (c .before .before .before) in omega arith)
 
 pub turns-less-12 : Given tie.Need-turns-less-12
 turns-less-12 c =
-    let t = some-left (c .before .before .before .before) in let f = at-most-64 (c .before .before .before .before .before .before .before .before .before .before .before .before) in omega arith
+    let t = some-left (c .before .before .before .before) in let f = few (c .before .before .before .before) in omega arith
 
 pub turns-again-12 : Given tie.Need-turns-again-12
 turns-again-12 c =
     let p = c .before .before .before .before in
     let h = halts (c .before .before) in
-    ((c .before .before .before .before .before .before .before .before .before .before .before .before) .turns .inv .0, record { few = at-most-64 (c .before .before .before .before .before .before .before .before .before .before .before .before); going = goes p _ (halt-way (going p) _ _ (at p) (h .0) (h .1) (c .accepted9 .ensures)) })
+    (data-kept p, record { few = few p; going = goes p _ (halt-way (going p) _ _ (at p) (h .0) (h .1) (c .accepted9 .ensures)) })

@@ -8,7 +8,7 @@ use Rattle.turns.proofs.Turning.{settled}
 use Rattle.turns.proofs.WayLaws.{Issues}
 use Rattle.turns.proofs.EventWays.{issue-way}
 use Rattle.playing.proofs.play.Tie as tie
-use Rattle.playing.proofs.play.Proof.Regions.{Given, at, event, goes, going, here, small-counts, some-left, told, values-long, within}
+use Rattle.playing.proofs.play.Proof.Regions.{Given, at, data-kept, event, goes, going, here, small-counts, some-left, told, undropped, values-long, within}
 
 module _ (p : Given tie.After-enum-told2) where
   abbrev chosen : Given tie.After-way-of
@@ -23,7 +23,7 @@ enum-told-2 c =
 
 pub read-requires : Given tie.Need-read-requires
 read-requires c κs =
-    (in-range-operation (here (c .before .before .before .before)) _ (in-range (going (c .before .before .before .before))) (issues (c .before .before) .there), values-long (c .before .before .before .before .before .before .before .before .before .before .before .before))
+    (in-range-operation (here (c .before .before .before .before)) _ (in-range (going (c .before .before .before .before))) (issues (c .before .before) .there), values-long (c .before .before .before .before))
 
 pub mul-entries-3 : Given tie.Need-mul-entries-3
 mul-entries-3 c =
@@ -44,6 +44,7 @@ turns-less-3 c =
 pub turns-again-3 : Given tie.Need-turns-again-3
 turns-again-3 c =
     let p = c .before .before .before .before .before .before in
-    let i = issues (c .before .before .before .before) in
-    ((c .before .before .before .before .before .before .before .before .before .before .before .before .before .before) .turns .inv .0,
-    settled (c .before .before .before .before .before .before .before .before .before .before .before .before .before .if1 .left) (goes p _ (issue-way (going p) _ _ (at p) (i .call) (i .accepted) (c .accepted2 .ensures) _ (c .before .read .ensures))))
+    let i = issues (c .before .before .before .before) in (
+      data-kept p,
+      settled (undropped p) (goes p _ (issue-way (going p) _ _ (at p) (i .call) (i .accepted) (c .accepted2 .ensures) _ (c .before .read .ensures))),
+    )

@@ -18,7 +18,7 @@ use Rattle.turns.proofs.Turning.{settled}
 use Rattle.turns.proofs.WayLaws.{Loads}
 use Rattle.turns.proofs.EventWays.{barred-way, issue-way}
 use Rattle.playing.proofs.play.Tie as tie
-use Rattle.playing.proofs.play.Proof.Regions.{Given, at, event, goes, going, head, here, small-counts, some-left, told, values-long, within}
+use Rattle.playing.proofs.play.Proof.Regions.{Given, at, data-kept, event, goes, going, head, here, small-counts, some-left, told, undropped, values-long, within}
 
 module _ (p : Given tie.After-enum-told3) where
   abbrev chosen : Given tie.After-way-of
@@ -66,7 +66,7 @@ pub older-again : Given tie.Need-older-again
 older-again c =
     let l = (c .before .before .before .before) .older in
     let t = (c .before .before .before) .older-test .taken in
-    let entries = (c .before .before .before .before .before .before .before .before .before .before .before .before .before .before .before) .turns .entries in
+    let entries = head (c .before .before .before .before .before .before .before) .turns .entries in
     (omega arith, ap (λ (b : Bool). b || l .found) (c .is-store .ensures) ∙ ap (λ (b : Bool). stores (getD entries (l .k) emptyEntry .instruction) || b) (l .inv .1) ∙ below-more (l .k) entries)
 
 pub refused-requires : Given tie.Need-refused-requires
@@ -84,14 +84,15 @@ turns-less-5 c =
 pub turns-again-4 : Given tie.Need-turns-again-4
 turns-again-4 c =
     let p = c .before .before .before .before .before .before in
-    let l = loads (c .before .before .before .before) in
-    ((c .before .before .before .before .before .before .before .before .before .before .before .before .before .before) .turns .inv .0,
-    settled (c .before .before .before .before .before .before .before .before .before .before .before .before .before .if1 .left)
-    (goes p _ (barred-way (going p) _ _ (issue (at p)) 15 (l .call) (l .barred (sym (seen (c .before .before)) ∙ c .before .if4 .taken)) (eqb-false 15 0 refl) (c .refused .ensures))))
+    let l = loads (c .before .before .before .before) in (
+      data-kept p,
+      settled (undropped p)
+          (goes p _ (barred-way (going p) _ _ (issue (at p)) 15 (l .call) (l .barred (sym (seen (c .before .before)) ∙ c .before .if4 .taken)) (eqb-false 15 0 refl) (c .refused .ensures))),
+    )
 
 pub read-requires-2 : Given tie.Need-read-requires-2
 read-requires-2 c κs =
-    (in-range-operation (here (c .before .before .before .before .before .before .before)) _ (in-range (going (c .before .before .before .before .before .before .before))) (loads (c .before .before .before .before .before) .there), values-long (c .before .before .before .before .before .before .before .before .before .before .before .before .before .before .before))
+    (in-range-operation (here (c .before .before .before .before .before .before .before)) _ (in-range (going (c .before .before .before .before .before .before .before))) (loads (c .before .before .before .before .before) .there), values-long (c .before .before .before .before .before .before .before))
 
 pub mul-entries-4 : Given tie.Need-mul-entries-4
 mul-entries-4 c =
@@ -108,7 +109,8 @@ accepted-requires-3 c κs =
 pub turns-again-5 : Given tie.Need-turns-again-5
 turns-again-5 c =
     let p = c .before .before .before .before .before .before .before .before .before in
-    let l = loads (c .before .before .before .before .before .before .before) in
-    ((c .before .before .before .before .before .before .before .before .before .before .before .before .before .before .before .before .before) .turns .inv .0,
-    settled (c .before .before .before .before .before .before .before .before .before .before .before .before .before .before .before .before .if1 .left)
-    (goes p _ (issue-way (going p) _ _ (at p) (l .call) (l .accepted (sym (seen (c .before .before .before .before .before)) ∙ c .before .before .before .before .if4 .left)) (c .accepted3 .ensures) _ (c .before .read2 .ensures))))
+    let l = loads (c .before .before .before .before .before .before .before) in (
+      data-kept p,
+      settled (undropped p)
+          (goes p _ (issue-way (going p) _ _ (at p) (l .call) (l .accepted (sym (seen (c .before .before .before .before .before)) ∙ c .before .before .before .before .if4 .left)) (c .accepted3 .ensures) _ (c .before .read2 .ensures))),
+    )

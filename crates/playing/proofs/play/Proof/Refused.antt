@@ -5,7 +5,7 @@ use Rattle.turns.specs.declared.Way.the-variants.{Refused}
 use Rattle.turns.proofs.Turning.{settled}
 use Rattle.turns.proofs.EventWays.{refused-way}
 use Rattle.playing.proofs.play.Tie as tie
-use Rattle.playing.proofs.play.Proof.Regions.{Given, goes, going, small-counts, some-left, told}
+use Rattle.playing.proofs.play.Proof.Regions.{Given, data-kept, goes, going, small-counts, some-left, told, undropped}
 
 pub enum-told-11 : Given tie.Need-enum-told-11
 enum-told-11 c =
@@ -21,6 +21,7 @@ turns-less-13 c =
 
 pub turns-again-13 : Given tie.Need-turns-again-13
 turns-again-13 c =
-    let p = c .before .before .before in
-    ((c .before .before .before .before .before .before .before .before .before .before .before) .turns .inv .0,
-    settled (c .before .before .before .before .before .before .before .before .before .before .if1 .left) (goes p _ (refused-way (going p) _ _ (told p Refused (c .before .enum-told11 .given .1) .some) (c .refused3 .ensures))))
+    let p = c .before .before .before in (
+      data-kept p,
+      settled (undropped p) (goes p _ (refused-way (going p) _ _ (told p Refused (c .before .enum-told11 .given .1) .some) (c .refused3 .ensures))),
+    )

@@ -12,6 +12,7 @@ use Rattle.machine.specs.Changes.{changeFirst, entryAt}
 use Rattle.machine.specs.declared.Machine.{Machine}
 use Rattle.machine.proofs.DropLaws.{Long}
 use Rattle.issuing.specs.Issue.{storeBelow}
+use Rattle.completing.specs.Complete.{outcomeAt}
 use Rattle.stealing.specs.Steal.{victimAmong}
 use Rattle.committing.proofs.CommitLaws.{shifted}
 use Rattle.events.specs.Counts.{Played, played}
@@ -19,7 +20,7 @@ use Rattle.events.specs.Numbers.{Small}
 use Rattle.turns.specs.declared.Way.{Way}
 use Rattle.turns.specs.declared.Way.the-variants.{Complete}
 use Rattle.turns.specs.declared.Ending.{Ending}
-use Rattle.turns.proofs.Going.{Going, few, goes-on, kept, small-enough}
+use Rattle.turns.proofs.Going.{Going, goes-on, kept, small-enough}
 use Rattle.turns.proofs.Turning.{Turning, calm, long, long-values, machineOf}
 use Rattle.turns.proofs.WayLaws.{Completes, EndingSays, Says, ending-says, way-says}
 use Rattle.turns.proofs.EventWays.{reaching}
@@ -90,14 +91,11 @@ module _ (p : Given tie.At-turns) where
       machineOf (start .args .machine .setup) (p .turns .entries) (p .turns .mapname) (p .turns .mapregister) (p .turns .mapvalid) (p .turns .physical) (p .turns .values) (p .turns .registerlink) (p .turns .namelink) (p .turns .registerhead) (p .turns .namehead)
       (p .turns .count) (p .turns .fetch) (p .turns .next) (p .turns .halt)
 
-  pub at-most-64 : p .turns .count ≤ 64
-  at-most-64 = p .turns .inv .1 .few
+  pub few-at : p .turns .count ≤ 64
+  few-at = p .turns .inv .1 .few
 
-  pub tables : Long machine
-  tables = long (p .turns .inv .1)
-
-  pub values-long : length (p .turns .values) ≡ 96
-  values-long = long-values (p .turns .inv .1)
+  pub tables-at : Long machine
+  tables-at = long (p .turns .inv .1)
 
 -- no drop is under way
 pub turn-going : (p : Given tie.Else1)
@@ -124,6 +122,22 @@ module _ (p : Given tie.After-way-of) where
   pub going : Going (now (start head .args .program)) (now (start head .args .«data»)) (now (start head .args .schedule)) (head .turns .left) (head .turns .index) here (head .turns .«data») (head .turns .counts)
   going = turn-going (p .before .before .before .before .before .before .before)
 
+  pub few : head .turns .count ≤ 64
+  few = few-at head
+
+  pub tables : Long here
+  tables = tables-at head
+
+  pub values-long : length (head .turns .values) ≡ 96
+  values-long = long-values (head .turns .inv .1)
+
+  pub data-kept : length (head .turns .«data») ≡ length (now (start head .args .«data»))
+  data-kept = head .turns .inv .0
+
+  -- nothing is to be dropped
+  pub undropped : head .turns .count ≤ head .turns .kept
+  undropped = p .before .before .before .before .before .before .before .if1 .left
+
   pub within : at < 64
   within = p .before .before .place .ensures .1
 
@@ -135,7 +149,7 @@ module _ (p : Given tie.After-way-of) where
 
   -- what the way says
   pub told : (way : Way) → p .way-of .result ≡ way → Says event here at way
-  told way is = subst (Says event here at) (sym (p .way-of .ensures) ∙ is) (way-says event here at (p .before .before .place .ensures .0) (at-most-64 head))
+  told way is = subst (Says event here at) (sym (p .way-of .ensures) ∙ is) (way-says event here at (p .before .before .place .ensures .0) few)
 
   -- the event is made: what it leaves goes on
   pub goes : (x : Played) → x ≡ played (now (start head .args .program)) event (reaching here (head .turns .«data») (head .turns .counts))
@@ -152,6 +166,9 @@ module _ (p : Given tie.After-ending-of) where
 
   abbrev pub outcome : Outcome
   outcome = p .before .outcome .result
+
+  pub outcome-is : outcome ≡ outcomeAt (here way) (at way)
+  outcome-is = p .before .outcome .ensures
 
   pub ended : (ending : Ending) → p .ending-of .result ≡ ending → EndingSays (entry way) outcome (head way .turns .registerhead) ending
   ended ending is = subst (EndingSays (entry way) outcome (head way .turns .registerhead)) (sym (p .ending-of .ensures) ∙ is) (ending-says (entry way) outcome (head way .turns .registerhead))

@@ -5,7 +5,7 @@ use Rattle.turns.specs.declared.Ending.the-variants.{Stops}
 use Rattle.turns.proofs.Turning.{settled}
 use Rattle.turns.proofs.EventWays.{stop-way}
 use Rattle.playing.proofs.play.Tie as tie
-use Rattle.playing.proofs.play.Proof.Regions.{Given, at, completes, ended, goes, going, outcome, small-counts, some-left, within}
+use Rattle.playing.proofs.play.Proof.Regions.{Given, at, completes, data-kept, ended, goes, going, outcome, outcome-is, small-counts, some-left, undropped, way, within}
 
 pub enum-told-5 : Given tie.Need-enum-told-5
 enum-told-5 c =
@@ -17,24 +17,25 @@ stopped-requires c κs =
 
 pub mul-entries-5 : Given tie.Need-mul-entries-5
 mul-entries-5 c =
-    let w = within (c .before .before .before .before .before .before .before .before) in omega arith
+    let w = within (way (c .before .before .before .before)) in omega arith
 
 pub array-set-from-entries-5 : Given tie.Need-array-set-from-entries-5
 array-set-from-entries-5 c =
-    within (c .before .before .before .before .before .before .before .before)
+    within (way (c .before .before .before .before))
 
 pub accepted-requires-4 : Given tie.Need-accepted-requires-4
 accepted-requires-4 c κs =
-    (small-counts (c .before .before .before .before .before .before .before .before), omega arith, omega arith, omega arith)
+    (small-counts (way (c .before .before .before .before)), omega arith, omega arith, omega arith)
 
 pub turns-less-6 : Given tie.Need-turns-less-6
 turns-less-6 c =
-    let t = some-left (c .before .before .before .before .before .before .before .before .before) in omega arith
+    let t = some-left (way (c .before .before .before .before .before)) in omega arith
 
 pub turns-again-6 : Given tie.Need-turns-again-6
 turns-again-6 c =
-    let p = c .before .before .before .before .before .before .before .before .before in
     let q = c .before .before .before .before .before in
-    ((c .before .before .before .before .before .before .before .before .before .before .before .before .before .before .before .before .before) .turns .inv .0,
-    settled (c .before .before .before .before .before .before .before .before .before .before .before .before .before .before .before .before .if1 .left)
-    (goes p _ (stop-way (going p) _ _ (at p) (completes q) (outcome q) (c .before .before .before .before .before .before .outcome .ensures) (ended q Stops (c .before .before .before .enum-told5 .given .1)) (c .accepted4 .ensures) _ (c .before .stopped .ensures))))
+    let p = way q in (
+      data-kept p,
+      settled (undropped p)
+          (goes p _ (stop-way (going p) _ _ (at p) (completes q) (outcome q) (outcome-is q) (ended q Stops (c .before .before .before .enum-told5 .given .1)) (c .accepted4 .ensures) _ (c .before .stopped .ensures))),
+    )

@@ -14,13 +14,13 @@ use Rattle.machine.proofs.ChangeLaws.{change-none, change-step}
 use Rattle.stealing.specs.Steal.{victimAmong, victimOf}
 use Rattle.stealing.proofs.StealLaws.{found-at, none-at, passed-at, victim-within}
 use Rattle.turns.specs.declared.Ending.the-variants.{Steals}
-use Rattle.turns.proofs.Going.{few, inside}
+use Rattle.turns.proofs.Going.{inside}
 use Rattle.turns.proofs.Turning.{settled}
 use Rattle.turns.proofs.EntryLaws.{change-end}
 use Rattle.turns.proofs.TheftLaws.{learnt-length}
 use Rattle.turns.proofs.EventWays.{theft-way, unsupplied-way}
 use Rattle.playing.proofs.play.Tie as tie
-use Rattle.playing.proofs.play.Proof.Regions.{Given, at, at-most-64, completes, ended, goes, going, head, here, machine, outcome, small-counts, some-left, tables, values-long, way, within}
+use Rattle.playing.proofs.play.Proof.Regions.{Given, at, completes, data-kept, ended, few, goes, going, head, here, outcome, outcome-is, small-counts, some-left, tables, undropped, values-long, way, within}
 
 -- the search is at its end
 module _ (p : Given tie.Joined6) where
@@ -66,26 +66,26 @@ sub-k c =
 
 pub search-holds : Given tie.Need-search-holds
 search-holds c =
-    let p = c .before .before .before .before .before .before in
+    let p = way (c .before .before) in
     let t = completes (c .before .before) .there in
-    let same : (c .before .before .before .before .before .before .before .before .before .before .before .before .before .before) .turns .count - 1 - at p ≡ (c .before .before .before .before .before .before .before .before .before .before .before .before .before .before) .turns .count - suc (at p) = omega arith in
+    let same : head p .turns .count - 1 - at p ≡ head p .turns .count - suc (at p) = omega arith in
     (omega arith, omega arith, ap (λ (n : ℕ). victimAmong n (here p .physical) (here p .entries) (at p)) same)
 
 pub mul-x-4 : Given tie.Need-mul-x-4
 mul-x-4 c =
-    let i = (c .before) .search .inv .1 in let f = at-most-64 (c .before .before .before .before .before .before .before .before .before .before .before .before .before .before .before .before) in omega arith
+    let i = (c .before) .search .inv .1 in let f = few (way (c .before .before .before .before)) in omega arith
 
 pub array-copy-out-x-4 : Given tie.Need-array-copy-out-x-4
 array-copy-out-x-4 c =
-    let i = (c .before) .search .inv .1 in let f = at-most-64 (c .before .before .before .before .before .before .before .before .before .before .before .before .before .before .before .before) in omega arith
+    let i = (c .before) .search .inv .1 in let f = few (way (c .before .before .before .before)) in omega arith
 
 pub held-requires : Given tie.Need-held-requires
 held-requires c κs =
-    tables (c .before .before .before .before .before .before .before .before .before .before .before .before .before .before .before .before .before .before) .physical
+    tables (way (c .before .before .before .before .before .before)) .physical
 
 pub held-requires-2 : Given tie.Need-held-requires-2
 held-requires-2 c κs =
-    tables (c .before .before .before .before .before .before .before .before .before .before .before .before .before .before .before .before .before .before .before .before) .physical
+    tables (way (c .before .before .before .before .before .before .before .before)) .physical
 
 pub sub-k-2 : Given tie.Need-sub-k-2
 sub-k-2 c =
@@ -97,7 +97,7 @@ search-less c =
 
 pub search-again : Given tie.Need-search-again
 search-again c =
-    let p = c .before .before .before .before .before .before .before .before .before .before .before .before in
+    let p = way (c .before .before .before .before .before .before .before .before) in
     let l = (c .before .before .before .before .before) .search in
     let above = c .before .before .before .before .if6 .left in
     let inside = l .inv .1 in
@@ -105,61 +105,62 @@ search-again c =
 
 pub refused-requires-2 : Given tie.Need-refused-requires-2
 refused-requires-2 c κs =
-    small-counts (c .before .before .before .before .before .before .before .before .before)
+    small-counts (way (c .before .before .before .before .before))
 
 pub turns-less-9 : Given tie.Need-turns-less-9
 turns-less-9 c =
-    let t = some-left (c .before .before .before .before .before .before .before .before .before .before) in omega arith
+    let t = some-left (way (c .before .before .before .before .before .before)) in omega arith
 
 pub turns-again-9 : Given tie.Need-turns-again-9
 turns-again-9 c =
-    let p = c .before .before .before .before .before .before .before .before .before .before in
     let q = c .before .before .before .before .before .before in
-    let s = ended q Steals (c .before .before .before .before .enum-told8 .given .1) in
-    ((c .before .before .before .before .before .before .before .before .before .before .before .before .before .before .before .before .before .before) .turns .inv .0,
-    settled (c .before .before .before .before .before .before .before .before .before .before .before .before .before .before .before .before .before .if1 .left)
-    (goes p _ (unsupplied-way (going p) _ _ (at p) (completes q) (outcome q) (c .before .before .before .before .before .before .before .outcome .ensures) (s .0) (s .1) (s .2) (sym (found (c .before .before)) ∙ c .before .if8 .taken) (c .refused2 .ensures))))
+    let p = way q in
+    let s = ended q Steals (c .before .before .before .before .enum-told8 .given .1) in (
+      data-kept p,
+      settled (undropped p)
+          (goes p _ (unsupplied-way (going p) _ _ (at p) (completes q) (outcome q) (outcome-is q) (s .0) (s .1) (s .2) (sym (found (c .before .before)) ∙ c .before .if8 .taken) (c .refused2 .ensures))),
+    )
 
 pub mul-owner : Given tie.Need-mul-owner
 mul-owner c =
-    let v = victim-there (c .before .before) in let f = at-most-64 (c .before .before .before .before .before .before .before .before .before .before .before .before .before .before .before .before .before .before) in omega arith
+    let v = victim-there (c .before .before) in let f = few (way (c .before .before .before .before .before .before)) in omega arith
 
 pub array-copy-out-owner : Given tie.Need-array-copy-out-owner
 array-copy-out-owner c =
-    let v = victim-there (c .before .before) in let f = at-most-64 (c .before .before .before .before .before .before .before .before .before .before .before .before .before .before .before .before .before .before) in omega arith
+    let v = victim-there (c .before .before) in let f = few (way (c .before .before .before .before .before .before)) in omega arith
 
 pub mul-entries-9 : Given tie.Need-mul-entries-9
 mul-entries-9 c =
-    let v = victim-there (c .before .before .before .before .before .before) in let f = at-most-64 (c .before .before .before .before .before .before .before .before .before .before .before .before .before .before .before .before .before .before .before .before .before .before) in omega arith
+    let v = victim-there (c .before .before .before .before .before .before) in let f = few (way (c .before .before .before .before .before .before .before .before .before .before)) in omega arith
 
 pub array-set-from-entries-9 : Given tie.Need-array-set-from-entries-9
 array-set-from-entries-9 c =
-    let v = victim-there (c .before .before .before .before .before .before) in let f = at-most-64 (c .before .before .before .before .before .before .before .before .before .before .before .before .before .before .before .before .before .before .before .before .before .before) in omega arith
+    let v = victim-there (c .before .before .before .before .before .before) in let f = few (way (c .before .before .before .before .before .before .before .before .before .before)) in omega arith
 
 pub learn-requires-2 : Given tie.Need-learn-requires-2
 learn-requires-2 c κs =
-    let l = tables (c .before .before .before .before .before .before .before .before .before .before .before .before .before .before .before .before .before .before .before .before .before .before .before .before .before .before) in (l .mapname, l .mapregister, l .mapvalid, l .physical)
+    let l = tables (way (c .before .before .before .before .before .before .before .before .before .before .before .before .before .before)) in (l .mapname, l .mapregister, l .mapvalid, l .physical)
 
 pub mul-entries-10 : Given tie.Need-mul-entries-10
 mul-entries-10 c =
-    let w = within (c .before .before .before .before .before .before .before .before .before .before .before .before .before .before .before .before .before .before .before .before) in omega arith
+    let w = within (way (c .before .before .before .before .before .before .before .before .before .before .before .before .before .before .before .before)) in omega arith
 
 pub array-set-from-entries-10 : Given tie.Need-array-set-from-entries-10
 array-set-from-entries-10 c =
-    within (c .before .before .before .before .before .before .before .before .before .before .before .before .before .before .before .before .before .before .before .before)
+    within (way (c .before .before .before .before .before .before .before .before .before .before .before .before .before .before .before .before))
 
 pub learn-requires-3 : Given tie.Need-learn-requires-3
 learn-requires-3 c κs =
-    let l = tables (c .before .before .before .before .before .before .before .before .before .before .before .before .before .before .before .before .before .before .before .before .before .before .before .before .before .before .before .before .before .before .before .before) in
+    let l = tables (way (c .before .before .before .before .before .before .before .before .before .before .before .before .before .before .before .before .before .before .before .before)) in
     let u = c .before .before .before .before .before .learn2 .ensures in
-    let m : Machine = machine (c .before .before .before .before .before .before .before .before .before .before .before .before .before .before .before .before .before .before .before .before .before .before .before .before .before .before .before .before .before .before .before .before) in
+    let m : Machine = here (way (c .before .before .before .before .before .before .before .before .before .before .before .before .before .before .before .before .before .before .before .before)) in
     let owner : Entry = entryAt m ((c .before .before .before .before .before .before .before .before .before .before .before .before .before .before .before .before) .if6 .victim) in
     let shown : Bool = shows m (owner .destination) (owner .name) in
     (l .mapname, ap length (u .0) ∙ learnt-length shown (m .mapregister) (owner .destination) 0 ∙ l .mapregister, ap length (u .1) ∙ learnt-length shown (m .mapvalid) (owner .destination) false ∙ l .mapvalid, ap length (u .2) ∙ store-length _ _ _ ∙ l .physical)
 
 pub store-value-requires-2 : Given tie.Need-store-value-requires-2
 store-value-requires-2 c κs =
-    values-long (c .before .before .before .before .before .before .before .before .before .before .before .before .before .before .before .before .before .before .before .before .before .before .before .before .before .before .before .before .before .before .before .before .before .before)
+    values-long (way (c .before .before .before .before .before .before .before .before .before .before .before .before .before .before .before .before .before .before .before .before .before .before))
 
 pub pass-holds : Given tie.Need-pass-holds
 pass-holds c =
@@ -167,27 +168,27 @@ pass-holds c =
 
 pub mul-x-5 : Given tie.Need-mul-x-5
 mul-x-5 c =
-    let t = (c) .pass-test .taken in let f = at-most-64 (c .before .before .before .before .before .before .before .before .before .before .before .before .before .before .before .before .before .before .before .before .before .before .before .before .before .before .before .before .before .before .before .before .before .before .before .before .before) in omega arith
+    let t = (c) .pass-test .taken in let f = few (way (c .before .before .before .before .before .before .before .before .before .before .before .before .before .before .before .before .before .before .before .before .before .before .before .before .before)) in omega arith
 
 pub array-copy-out-x-5 : Given tie.Need-array-copy-out-x-5
 array-copy-out-x-5 c =
-    let t = (c) .pass-test .taken in let f = at-most-64 (c .before .before .before .before .before .before .before .before .before .before .before .before .before .before .before .before .before .before .before .before .before .before .before .before .before .before .before .before .before .before .before .before .before .before .before .before .before) in omega arith
+    let t = (c) .pass-test .taken in let f = few (way (c .before .before .before .before .before .before .before .before .before .before .before .before .before .before .before .before .before .before .before .before .before .before .before .before .before)) in omega arith
 
 pub mul-entries-11 : Given tie.Need-mul-entries-11
 mul-entries-11 c =
-    let t = (c .before .before) .pass-test .taken in let f = at-most-64 (c .before .before .before .before .before .before .before .before .before .before .before .before .before .before .before .before .before .before .before .before .before .before .before .before .before .before .before .before .before .before .before .before .before .before .before .before .before .before .before) in omega arith
+    let t = (c .before .before) .pass-test .taken in let f = few (way (c .before .before .before .before .before .before .before .before .before .before .before .before .before .before .before .before .before .before .before .before .before .before .before .before .before .before .before)) in omega arith
 
 pub array-set-from-entries-11 : Given tie.Need-array-set-from-entries-11
 array-set-from-entries-11 c =
-    let t = (c .before .before) .pass-test .taken in let f = at-most-64 (c .before .before .before .before .before .before .before .before .before .before .before .before .before .before .before .before .before .before .before .before .before .before .before .before .before .before .before .before .before .before .before .before .before .before .before .before .before .before .before) in omega arith
+    let t = (c .before .before) .pass-test .taken in let f = few (way (c .before .before .before .before .before .before .before .before .before .before .before .before .before .before .before .before .before .before .before .before .before .before .before .before .before .before .before)) in omega arith
 
 pub add-j : Given tie.Need-add-j
 add-j c =
-    let t = (c .before .before) .pass-test .taken in let f = at-most-64 (c .before .before .before .before .before .before .before .before .before .before .before .before .before .before .before .before .before .before .before .before .before .before .before .before .before .before .before .before .before .before .before .before .before .before .before .before .before .before .before) in omega arith
+    let t = (c .before .before) .pass-test .taken in let f = few (way (c .before .before .before .before .before .before .before .before .before .before .before .before .before .before .before .before .before .before .before .before .before .before .before .before .before .before .before)) in omega arith
 
 pub pass-less : Given tie.Need-pass-less
 pass-less c =
-    let t = (c .before .before) .pass-test .taken in let f = at-most-64 (c .before .before .before .before .before .before .before .before .before .before .before .before .before .before .before .before .before .before .before .before .before .before .before .before .before .before .before .before .before .before .before .before .before .before .before .before .before .before .before) in omega arith
+    let t = (c .before .before) .pass-test .taken in let f = few (way (c .before .before .before .before .before .before .before .before .before .before .before .before .before .before .before .before .before .before .before .before .before .before .before .before .before .before .before)) in omega arith
 
 pub pass-again : Given tie.Need-pass-again
 pass-again c =
@@ -197,7 +198,7 @@ pass-again c =
 
 pub kept-after-requires-3 : Given tie.Need-kept-after-requires-3
 kept-after-requires-3 c κs =
-    (completes (c .before .before .before .before .before .before .before .before .before .before .before .before .before .before .before .before .before .before .before .before .before .before .before .before .before) .there, at-most-64 (c .before .before .before .before .before .before .before .before .before .before .before .before .before .before .before .before .before .before .before .before .before .before .before .before .before .before .before .before .before .before .before .before .before .before .before .before .before))
+    (completes (c .before .before .before .before .before .before .before .before .before .before .before .before .before .before .before .before .before .before .before .before .before .before .before .before .before) .there, few (way (c .before .before .before .before .before .before .before .before .before .before .before .before .before .before .before .before .before .before .before .before .before .before .before .before .before)))
 
 pub sub-accepted-3 : Given tie.Need-sub-accepted-3
 sub-accepted-3 c =
@@ -205,31 +206,32 @@ sub-accepted-3 c =
 
 pub cast-accepted-3 : Given tie.Need-cast-accepted-3
 cast-accepted-3 c =
-    let f = at-most-64 (c .before .before .before .before .before .before .before .before .before .before .before .before .before .before .before .before .before .before .before .before .before .before .before .before .before .before .before .before .before .before .before .before .before .before .before .before .before .before .before) in record { fits = omega arith }
+    let f = few (way (c .before .before .before .before .before .before .before .before .before .before .before .before .before .before .before .before .before .before .before .before .before .before .before .before .before .before .before)) in record { fits = omega arith }
 
 pub accepted-requires-7 : Given tie.Need-accepted-requires-7
 accepted-requires-7 c κs =
-    (small-counts (c .before .before .before .before .before .before .before .before .before .before .before .before .before .before .before .before .before .before .before .before .before .before .before .before .before .before .before .before .before .before .before), omega arith, omega arith, let f = at-most-64 (c .before .before .before .before .before .before .before .before .before .before .before .before .before .before .before .before .before .before .before .before .before .before .before .before .before .before .before .before .before .before .before .before .before .before .before .before .before .before .before) in omega arith)
+    (small-counts (way (c .before .before .before .before .before .before .before .before .before .before .before .before .before .before .before .before .before .before .before .before .before .before .before .before .before .before .before)), omega arith, omega arith, let f = few (way (c .before .before .before .before .before .before .before .before .before .before .before .before .before .before .before .before .before .before .before .before .before .before .before .before .before .before .before)) in omega arith)
 
 pub turns-less-10 : Given tie.Need-turns-less-10
 turns-less-10 c =
-    let t = some-left (c .before .before .before .before .before .before .before .before .before .before .before .before .before .before .before .before .before .before .before .before .before .before .before .before .before .before .before .before .before .before .before .before) in let f = at-most-64 (c .before .before .before .before .before .before .before .before .before .before .before .before .before .before .before .before .before .before .before .before .before .before .before .before .before .before .before .before .before .before .before .before .before .before .before .before .before .before .before .before) in omega arith
+    let t = some-left (way (c .before .before .before .before .before .before .before .before .before .before .before .before .before .before .before .before .before .before .before .before .before .before .before .before .before .before .before .before)) in let f = few (way (c .before .before .before .before .before .before .before .before .before .before .before .before .before .before .before .before .before .before .before .before .before .before .before .before .before .before .before .before)) in omega arith
 
 pub turns-again-10 : Given tie.Need-turns-again-10
 turns-again-10 c =
-    let p = c .before .before .before .before .before .before .before .before .before .before .before .before .before .before .before .before .before .before .before .before .before .before .before .before .before .before .before .before .before .before .before .before in
     let q = c .before .before .before .before .before .before .before .before .before .before .before .before .before .before .before .before .before .before .before .before .before .before .before .before .before .before .before .before in
+    let p = way q in
     let s = ended q Steals (c .before .before .before .before .before .before .before .before .before .before .before .before .before .before .before .before .before .before .before .before .before .before .before .before .before .before .enum-told8 .given .1) in
     let lost = c .before .before .before .before .before .before .before .before .before .before .before .before .before .learn2 .ensures in
     let new = c .before .before .before .before .before .before .before .learn3 .ensures in
     let l = (c .before .before .before .before) .pass in
-    let end : l .j ≡ (c .before .before .before .before .before .before .before .before .before .before .before .before .before .before .before .before .before .before .before .before .before .before .before .before .before .before .before .before .before .before .before .before .before .before .before .before .before .before .before .before) .turns .count = let x = l .inv .0 in let y = (c .before .before .before) .pass-test .left in omega arith in
-    ((c .before .before .before .before .before .before .before .before .before .before .before .before .before .before .before .before .before .before .before .before .before .before .before .before .before .before .before .before .before .before .before .before .before .before .before .before .before .before .before .before) .turns .inv .0,
-    record {
-      few = at-most-64 (c .before .before .before .before .before .before .before .before .before .before .before .before .before .before .before .before .before .before .before .before .before .before .before .before .before .before .before .before .before .before .before .before .before .before .before .before .before .before .before .before);
-      going = goes p _
-          (theft-way (going p) _ _ (at p) (completes q) (outcome q) (c .before .before .before .before .before .before .before .before .before .before .before .before .before .before .before .before .before .before .before .before .before .before .before .before .before .before .before .before .before .outcome .ensures) (s .0) (s .1) (s .2) _ (found (c .before .before .before .before .before .before .before .before .before .before .before .before .before .before .before .before .before .before .before .before .before .before .before .before)) (c .before .before .before .before .before .before .before .before .before .before .before .before .before .before .before .before .before .before .before .before .before .before .before .if8 .left) _ (c .before .before .before .before .before .before .before .before .before .before .before .before .before .before .before .before .before .before .before .held2 .ensures)
-          _ _ (c .before .before .before .before .before .before .before .before .before .before .before .before .before .before .before .before .before .before .waiting .ensures) (c .before .before .before .before .before .before .before .before .before .before .before .before .finished3 .ensures) _ _ _ _ _ _ _ _
-          (change-end _ _ _ _ _ (l .inv .1) end) (lost .0) (lost .1) (lost .2) (new .0) (new .1) (new .2) (c .before .before .before .before .before .store-value2 .ensures)
-          _ (c .before .fetch-after3 .ensures) _ (c .before .before .kept-after3 .ensures .0) (c .accepted7 .ensures));
-    })
+    let end : l .j ≡ head p .turns .count = let x = l .inv .0 in let y = (c .before .before .before) .pass-test .left in omega arith in (
+      data-kept p,
+      record {
+        few = few p;
+        going = goes p _
+            (theft-way (going p) _ _ (at p) (completes q) (outcome q) (outcome-is q) (s .0) (s .1) (s .2) _ (found (c .before .before .before .before .before .before .before .before .before .before .before .before .before .before .before .before .before .before .before .before .before .before .before .before)) (c .before .before .before .before .before .before .before .before .before .before .before .before .before .before .before .before .before .before .before .before .before .before .before .if8 .left) _ (c .before .before .before .before .before .before .before .before .before .before .before .before .before .before .before .before .before .before .before .held2 .ensures)
+            _ _ (c .before .before .before .before .before .before .before .before .before .before .before .before .before .before .before .before .before .before .waiting .ensures) (c .before .before .before .before .before .before .before .before .before .before .before .before .finished3 .ensures) _ _ _ _ _ _ _ _
+            (change-end _ _ _ _ _ (l .inv .1) end) (lost .0) (lost .1) (lost .2) (new .0) (new .1) (new .2) (c .before .before .before .before .before .store-value2 .ensures)
+            _ (c .before .fetch-after3 .ensures) _ (c .before .before .kept-after3 .ensures .0) (c .accepted7 .ensures));
+      },
+    )
