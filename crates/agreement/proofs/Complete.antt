@@ -11,6 +11,7 @@ use Rattle.execution.specs.declared.Outcome.{Outcome}
 use Rattle.tables.specs.Entry.{completedEntry, stoppedEntry, predictedEntry}
 use Rattle.tables.specs.declared.State.the-variants.{Issued}
 use Rattle.tables.specs.declared.Entry.{Entry}
+use Rattle.completing.specs.Complete.{outcomeOf}
 use Rattle.agreement.proofs.Ghost.{Ghost}
 use Rattle.agreement.proofs.Chains.{executionOf, Executable, waits, reads, done, stops, Executes}
 use Rattle.agreement.proofs.Tests.{impossible}
@@ -24,9 +25,6 @@ pub record Read (p : List ℕ) (s : State) (e : Entry) : Type 0 where
   pub executable : Executable p s
 
 -- the outcome of an entry, from the values that it read
-abbrev pub outcomeOf : ℕ → Entry → Outcome
-outcomeOf size e = executed size (e .instruction) (e .address) (e .first) (e .second)
-
 module _ (p : List ℕ) (g : Ghost) (s : State) (e : Entry) (size : ℕ) (sized : length (s .memory) ≡ size) (executes : Executes p g s (executionOf e)) (now : e .state ≡ Issued) where
   pub issued-read : Read p s e
   issued-read = elim (executes .status) [

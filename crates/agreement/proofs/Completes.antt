@@ -13,7 +13,7 @@ use Rattle.tables.specs.Entry.{emptyEntry, held, completedEntry, stoppedEntry, 
 use Rattle.tables.specs.declared.State.the-variants.{Issued, Completed}
 use Rattle.tables.specs.declared.Entry.{Entry}
 use Rattle.machine.specs.Changes.{entryAt, place}
-use Rattle.completing.specs.Complete.{outcomeAt, learned, redirected}
+use Rattle.completing.specs.Complete.{outcomeOf, outcomeAt, learned, redirected}
 use Rattle.stealing.specs.Steal.{robbed}
 use Rattle.machine.specs.declared.Machine.{Machine}
 use Rattle.agreement.proofs.Core.{Core, coreOf, informEntry, placed, release, learn, redirect}
@@ -25,7 +25,7 @@ use Rattle.agreement.proofs.Tests.{equal, apart, eq?}
 use Rattle.agreement.proofs.RegisterPools.{pool-some, held-outside}
 use Rattle.agreement.proofs.Walks.{namesAt, stateAt, executes-at, agree-at, last-length}
 use Rattle.agreement.proofs.Learn.{learn-accounted}
-use Rattle.agreement.proofs.Complete.{outcomeOf, issued-read, complete-value}
+use Rattle.agreement.proofs.Complete.{issued-read, complete-value}
 use Rattle.agreement.proofs.Finish.{released-head, released-length, named, stop-keeps, finish-keeps-without, finish-keeps-free, release-keeps, finish-keeps-theft}
 use Rattle.agreement.proofs.Victims.{held-some}
 use Rattle.agreement.proofs.Stores.{look-get}

@@ -12,6 +12,7 @@ use Rattle.execution.specs.declared.Outcome.{Outcome}
 use Rattle.tables.specs.Entry.{emptyEntry, waitingEntry, completedEntry, stoppedEntry}
 use Rattle.tables.specs.declared.State.the-variants.{Issued, Completed}
 use Rattle.tables.specs.declared.Entry.{Entry}
+use Rattle.completing.specs.Complete.{outcomeOf}
 use Rattle.agreement.proofs.Core.{Core, informEntry, placed, release, learn, redirect}
 use Rattle.agreement.proofs.Ghost.{Ghost}
 use Rattle.agreement.proofs.Chains.{renamingOf, Renamed, Execution, executionOf, waits, reads, done, stops, Executes}
@@ -24,7 +25,7 @@ use Rattle.agreement.proofs.Every.{all-at, map-keep}
 use Rattle.agreement.proofs.Walks.{namesAt, stateAt, renamed-at, executes-at, agree-at, executed-set, state-set, last-length}
 use Rattle.agreement.proofs.Placing.{placed-accounted, placed-keeps}
 use Rattle.agreement.proofs.Learn.{no-register, release-accounted, learn-accounted}
-use Rattle.agreement.proofs.Complete.{issued-read, outcomeOf, complete-executes, complete-value, stop-executes}
+use Rattle.agreement.proofs.Complete.{issued-read, complete-executes, complete-value, stop-executes}
 use Rattle.agreement.proofs.Redirect.{redirect-keeps}
 
 module _ (p : List ℕ) (s : State) (c : Core) (invariant : Invariant p s c) (i : ℕ) (inside : i < length (c .entries)) where

@@ -19,11 +19,11 @@ use Rattle.machine.specs.declared.Answer.{Answer}
 use Rattle.stealing.specs.Steal.{victimOf, noVictim, robbed}
 
 -- "The result … and actual next address are found from the values read."
-abbrev pub outcomeOf : Machine → Entry → Outcome
-outcomeOf m e = executed (m .setup .bytes) (e .instruction) (e .address) (e .first) (e .second)
+abbrev pub outcomeOf : ℕ → Entry → Outcome
+outcomeOf bytes e = executed bytes (e .instruction) (e .address) (e .first) (e .second)
 
 abbrev pub outcomeAt : Machine → ℕ → Outcome
-outcomeAt m position = outcomeOf m (entryAt m position)
+outcomeAt m position = outcomeOf (m .setup .bytes) (entryAt m position)
 
 -- "Otherwise a destination takes a free register."
 abbrev pub needsRegister : Machine → ℕ → Bool

@@ -9,6 +9,8 @@ ghost use Rattle.tables.specs.Entry.{wakeEntry};
 use execution::Outcome;
 use machine::Answer;
 use machine::Machine;
+use machine::Setup;
+use tables::Entry;
 use tables::entries;
 use tables::free_list;
 use tables::maps;
@@ -29,14 +31,22 @@ fn wake_all(mut machine: Machine, name: u8, register: u8) -> Machine
     machine
 }
 
+// what the entry's values come to; replay's loop calls it too
+pub fn outcome(s: Setup, e: Entry) -> Outcome
+    requires { ⌜ e .instruction .operation < 40 ⌝ }
+    ensures { λ r. ⌜ r ≡ Complete.outcomeOf (s .bytes) e ⌝ }
+{
+    let i = e.instruction;
+    execution::execute(s.bytes as usize, i, e.address, e.first, e.second)
+}
+
 fn outcome_at(machine: Machine, position: usize) -> Outcome
     requires { ⌜ (machineInRange machine ≡ true) × (position < machine .count) ⌝ }
     ensures { λ r. ⌜ r ≡ Complete.outcomeAt machine position ⌝ }
 {
     let s = machine.setup;
     let e = machine.entries[position];
-    let i = e.instruction;
-    execution::execute(s.bytes as usize, i, e.address, e.first, e.second)
+    outcome(s, e)
 }
 
 fn complete_refusal(machine: Machine, position: usize) -> u8

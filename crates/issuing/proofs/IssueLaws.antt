@@ -8,13 +8,12 @@ use borrow.Author.Tests.{leb-false}
 use lib.ListN.{getD}
 use Rattle.execution.specs.Roles.{loads, stores}
 use Rattle.reference.specs.Step.{when, first}
-use Rattle.execution.specs.Memory.{secondValue}
-use Rattle.tables.specs.Operand.{isReady, valueOf}
-use Rattle.tables.specs.Entry.{emptyEntry, isWaiting, issuedEntry}
+use Rattle.tables.specs.Operand.{isReady}
+use Rattle.tables.specs.Entry.{emptyEntry, isWaiting}
 use Rattle.tables.specs.declared.Entry.{Entry}
 use Rattle.machine.specs.declared.Machine.{Machine}
 use Rattle.machine.specs.Call.{halted, noEntry, lentRefusal, answered}
-use Rattle.machine.specs.Changes.{entryAt, place}
+use Rattle.machine.specs.Changes.{entryAt}
 use Rattle.issuing.specs.Issue.{storeBelow, unready, issueRefusal, issued, issueWithin, issueOf}
 use Rattle.machine.proofs.RefusalLaws.{passed, own-next}
 
@@ -62,16 +61,6 @@ module _ (position : ℕ) (m : Machine) where
           pub no-store : loads (e .instruction) ≡ true → storeBelow position (m .entries) ≡ false → 0 ≡ issueRefusal position m
           unfolding issueRefusal first
           no-store l b = rw (h, n, s, r, l, b)
-
--- the entry with what it read
-pub issued-is : (memory : List ℕ) (position : ℕ) (m : Machine) (first operand second : ℕ) (read : Entry)
-    → first ≡ valueOf (m .values) (entryAt m position .left)
-    → operand ≡ valueOf (m .values) (entryAt m position .right)
-    → second ≡ secondValue (entryAt m position .instruction) first operand memory
-    → read ≡ issuedEntry first second (entryAt m position)
-    → place position read m ≡ issued memory position m
-unfolding issued
-issued-is memory position m first operand second read a b c d = rw (d, c, a, b)
 
 -- an issue that is not refused has an entry
 pub has-entry : (position : ℕ) (m : Machine) → issueRefusal position m ≡ 0 → position < m .count

@@ -35,15 +35,17 @@ issueRefusal position m =
     ∷ [])
 
 -- "Operand values are read, and a load reads data, extended to 32 bits, as its second value (0 where cause 6 applies)."
-abbrev pub firstRead : Machine → Entry → ℕ
-firstRead m e = valueOf (m .values) (e .left)
+abbrev pub firstRead : List ℕ → Entry → ℕ
+firstRead values e = valueOf values (e .left)
 
-abbrev pub secondRead : List ℕ → Machine → Entry → ℕ
-secondRead memory m e = secondValue (e .instruction) (firstRead m e) (valueOf (m .values) (e .right)) memory
+abbrev pub secondRead : List ℕ → List ℕ → Entry → ℕ
+secondRead values memory e = secondValue (e .instruction) (firstRead values e) (valueOf values (e .right)) memory
+
+abbrev pub readEntry : List ℕ → List ℕ → Entry → Entry
+readEntry values memory e = issuedEntry (firstRead values e) (secondRead values memory e) e
 
 unfoldable pub issued : List ℕ → ℕ → Machine → Machine
-issued memory position m =
-    place position (issuedEntry (firstRead m (entryAt m position)) (secondRead memory m (entryAt m position)) (entryAt m position)) m
+issued memory position m = place position (readEntry (m .values) memory (entryAt m position)) m
 
 -- issue, where 5 and 6 do not apply
 unfoldable pub issueWithin : List ℕ → ℕ → Machine → Answer

@@ -2,11 +2,13 @@
 ghost use mathlib.Core.Path.{_≡_};
 ghost use mathlib.Core.Bool.{true};
 ghost use Prim.Native.Nat.{_≤_, _<_};
+ghost use lib.ListN.{length};
 ghost use Rattle.machine.specs.Range.{machineInRange};
 ghost use Rattle.issuing.specs.Issue as Issue;
 use execution::roles;
 use machine::Answer;
 use machine::Machine;
+use tables::Entry;
 use tables::entries;
 use tables::operands;
 
@@ -54,20 +56,27 @@ fn issue_refusal(machine: Machine, position: usize) -> u8
     0
 }
 
-// the entry with the values that it reads
+// the entry with the values that it reads; replay's loop calls it too
+pub fn read(values: &[u32; 96], data: &[u8], e: Entry) -> Entry
+    requires { ⌜ (e .instruction .operation < 40) × (length (now values) ≡ 96) ⌝ }
+    ensures { λ r. ⌜ r ≡ Issue.readEntry (now (values .entry)) (now («data» .entry)) e ⌝ }
+{
+    let i = e.instruction;
+    let left = e.left;
+    let right = e.right;
+    let first = operands::value_of(values, left);
+    let operand = operands::value_of(values, right);
+    let second = execution::second_value(i, data, first, operand);
+    entries::issued(e, first, second)
+}
+
 fn issued(mut machine: Machine, data: &[u8], position: usize) -> Machine
     requires { ⌜ (machineInRange machine ≡ true) × (position < machine .count) ⌝ }
     ensures { λ r. ⌜ r ≡ Issue.issued (now («data» .entry)) position machine ⌝ }
 {
     let e = machine.entries[position];
-    let i = e.instruction;
-    let left = e.left;
-    let right = e.right;
-    let first = operands::value_of(&machine.values, left);
-    let operand = operands::value_of(&machine.values, right);
-    let second = execution::second_value(i, data, first, operand);
-    let read = entries::issued(e, first, second);
-    machine.entries[position] = read;
+    let filled = read(&machine.values, data, e);
+    machine.entries[position] = filled;
     machine
 }
 

@@ -113,7 +113,7 @@ pub fn play(machine: Machine, program: &[u8], data: &mut [u8], schedule: &[u8]) 
                 counts = decoded;
             }
             Way::Issue => {
-                let read = ways::read(&values, data, e);
+                let read = issuing::read(&values, data, e);
                 entries[at] = read;
                 let issued = counting::accepted(counts, 0, 0, 0);
                 counts = issued;
@@ -131,14 +131,14 @@ pub fn play(machine: Machine, program: &[u8], data: &mut [u8], schedule: &[u8]) 
                     let barred = counting::refused(counts);
                     counts = barred;
                 } else {
-                    let loaded = ways::read(&values, data, e);
+                    let loaded = issuing::read(&values, data, e);
                     entries[at] = loaded;
                     let passed = counting::accepted(counts, 0, 0, 0);
                     counts = passed;
                 }
             }
             Way::Complete => {
-                let o = ways::outcome(setup, e);
+                let o = completing::outcome(setup, e);
                 let ending = ways::ending_of(e, o, registerhead);
                 match ending {
                     Ending::Stops => {

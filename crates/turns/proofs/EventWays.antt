@@ -29,7 +29,7 @@ use Rattle.machine.proofs.RefusalLaws.{answered-next, answered-refused}
 use Rattle.decoding.specs.Decode.{entryFor, enter, decoded, decodeRefusal, decodeWithin}
 use Rattle.decoding.specs.Seen.{seen}
 use Rattle.decoding.proofs.DecodeLaws.{renamed-is, entered}
-use Rattle.issuing.specs.Issue.{issueRefusal, issued, issueWithin}
+use Rattle.issuing.specs.Issue.{readEntry, issueRefusal, issued, issueWithin}
 use Rattle.stealing.specs.Steal.{victimOf, robbed}
 use Rattle.stealing.proofs.StealLaws.{victim-within}
 use Rattle.completing.specs.Complete.{outcomeAt, needsRegister, noneFree, completeRefusal, learned, registered, redirected, finished, completed, completeWithin}
@@ -42,7 +42,7 @@ use Rattle.events.specs.declared.Counts.{Counts}
 use Rattle.events.specs.Counts.{callBy, refusing, Played, played}
 use Rattle.events.specs.Numbers.{adding}
 use Rattle.events.proofs.EventLaws.{decode-made, issue-made, complete-made, commit-made, event-accepted, event-refused}
-use Rattle.turns.specs.Ways.{readBy, fetchAfter, keptAfter}
+use Rattle.turns.specs.Ways.{fetchAfter, keptAfter}
 use Rattle.turns.proofs.Going.{Going, is-lent, kept, roomy}
 use Rattle.turns.proofs.WayLaws.{refusalBy, Decodes, Completes, Commits}
 use Rattle.turns.proofs.EntryLaws.{set-same}
@@ -139,7 +139,7 @@ module _ {program start schedule : List ℕ} {left index : ℕ} {m : Machine} {m
 
   -- issue, also of a load
   pub issue-way : (n : ℕ) → callBy r ≡ issue n → issueRefusal n m ≡ 0 → after ≡ adding 0 0 0 counts
-      → (read : Entry) → read ≡ readBy (m .values) memory (entryAt m n) → reaching (place n read m) memory after ≡ played program r (reaching m memory counts)
+      → (read : Entry) → read ≡ readEntry (m .values) memory (entryAt m n) → reaching (place n read m) memory after ≡ played program r (reaching m memory counts)
   unfolding issueWithin issued
   issue-way n q accepted added read is =
       event-accepted program memory m r counts _ memory 0 after

@@ -1,19 +1,16 @@
 -- Which way an event goes, by its record and by what is seen of the machine: the only place where ways are told apart.
 use Prim.Native.Nat.{ℕ, suc}
 use mathlib.Core.Bool.{_&&_}
-use mathlib.Core.List.{List}
 use lib.Dec.{eqb, leb}
 use Rattle.isa.specs.Reads.{choose}
-use Rattle.execution.specs.Execute.{executed}
-use Rattle.execution.specs.Memory.{secondValue}
 use Rattle.execution.specs.Roles.{loads}
 use Rattle.execution.specs.declared.Stop.{Stop}
 use Rattle.execution.specs.declared.Outcome.{Outcome}
 use Rattle.ranges.specs.declared.Setup.{Setup}
-use Rattle.tables.specs.Operand.{isReady, valueOf}
+use Rattle.tables.specs.Operand.{isReady}
 use Rattle.tables.specs.declared.Operand.{Operand}
 use Rattle.tables.specs.declared.Operand.the-variants.{Zero, Waiting, Ready}
-use Rattle.tables.specs.Entry.{isWaiting, isIssued, isCompleted, issuedEntry}
+use Rattle.tables.specs.Entry.{isWaiting, isIssued, isCompleted}
 use Rattle.tables.specs.declared.Entry.{Entry}
 use Rattle.formats.specs.declared.Record.{Record}
 use Rattle.turns.specs.declared.Way.{Way}
@@ -45,19 +42,12 @@ wayOf r halt s count e =
 abbrev pub endingOf : Entry → Outcome → ℕ → Ending
 endingOf e o head = choose (eqb (o .stop .cause) 0) (choose (eqb (e .destination) 0) WithoutDestination (choose (eqb head 0) Steals Supplied)) Stops
 
-abbrev pub outcomeBy : Setup → Entry → Outcome
-outcomeBy s e = executed (s .bytes) (e .instruction) (e .address) (e .first) (e .second)
-
 -- where fetch goes, and how many entries stay, by the actual and the predicted next address
 abbrev pub fetchAfter : ℕ → ℕ → ℕ → ℕ
 fetchAfter next predicted fetch = choose (eqb next predicted) fetch next
 
 abbrev pub keptAfter : ℕ → ℕ → ℕ → ℕ → ℕ
 keptAfter next predicted position count = choose (eqb next predicted) count (suc position)
-
--- the entry with the values that it reads
-abbrev pub readBy : List ℕ → List ℕ → Entry → Entry
-readBy values memory e = issuedEntry (valueOf values (e .left)) (secondValue (e .instruction) (valueOf values (e .left)) (valueOf values (e .right)) memory) e
 
 -- the name that an operand is on, 0 for none
 abbrev pub nameOf : Operand → ℕ

@@ -1,8 +1,7 @@
-// Which way an event goes, by its record and by what is seen of the machine; and what the ways read.
+// Which way an event goes, by its record and by what is seen of the machine.
 ghost use mathlib.Core.Path.{_≡_};
 ghost use mathlib.Core.Bool.{_||_};
 ghost use Prim.Native.Nat.{_<_, _≤_};
-ghost use lib.ListN.{length};
 ghost use lib.Dec.{eqb};
 ghost use Rattle.turns.specs.Ways as Ways;
 use crate::Ending;
@@ -15,7 +14,6 @@ use machine::Setup;
 use tables::Entry;
 use tables::Operand;
 use tables::entries;
-use tables::operands;
 
 // the place that an event looks at: the position of an issue or a complete, else that of the oldest entry
 pub fn place(r: Record) -> usize
@@ -102,14 +100,6 @@ pub fn way_of(r: Record, halt: Stop, s: Setup, count: usize, e: Entry) -> Way
     commit_way(e)
 }
 
-pub fn outcome(s: Setup, e: Entry) -> Outcome
-    requires { ⌜ e .instruction .operation < 40 ⌝ }
-    ensures { λ r. ⌜ r ≡ Ways.outcomeBy s e ⌝ }
-{
-    let i = e.instruction;
-    execution::execute(s.bytes as usize, i, e.address, e.first, e.second)
-}
-
 pub fn ending_of(e: Entry, o: Outcome, head: u8) -> Ending
     ensures { λ w. ⌜ w ≡ Ways.endingOf e o head ⌝ }
 {
@@ -139,20 +129,6 @@ pub fn kept_after(next: u32, predicted: u32, at: usize, count: usize) -> usize
     ensures { λ k. ⌜ (k ≡ Ways.keptAfter next predicted at count) × (k ≤ count) ⌝ }
 {
     if next == predicted { count } else { at + 1 }
-}
-
-// the entry with the values that it reads
-pub fn read(values: &[u32; 96], data: &[u8], e: Entry) -> Entry
-    requires { ⌜ (e .instruction .operation < 40) × (length (now values) ≡ 96) ⌝ }
-    ensures { λ r. ⌜ r ≡ Ways.readBy (now (values .entry)) (now («data» .entry)) e ⌝ }
-{
-    let i = e.instruction;
-    let left = e.left;
-    let right = e.right;
-    let first = operands::value_of(values, left);
-    let operand = operands::value_of(values, right);
-    let second = execution::second_value(i, data, first, operand);
-    entries::issued(e, first, second)
 }
 
 // the name that an operand is on, 0 for none

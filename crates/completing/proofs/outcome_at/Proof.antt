@@ -13,12 +13,9 @@ element-copy-out-e c =
     let s = c .before in
     omega (arith, in-range-count (s .args .t1) (s .pre .0), s .pre .1)
 
-cast-execute : tie.Need-cast-execute
-cast-execute c = search needs
-
-execute-requires : tie.Need-execute-requires
-execute-requires c κs =
-    let s = c .before .before .before .before in
+outcome-requires : tie.Need-outcome-requires
+outcome-requires c κs =
+    let s = c .before .before in
     in-range-operation (s .args .t1) (s .args .position) (s .pre .0) (s .pre .1)
 
 returns : tie.Need-returns
@@ -26,4 +23,4 @@ returns c = search needs
 
 pub outcome-at-spec : {M : Type 1} → statement M
 outcome-at-spec =
-    tie.close (tie.spec mul-e element-copy-out-e cast-execute execute-requires returns)
+    tie.close (tie.spec mul-e element-copy-out-e outcome-requires returns)

@@ -1,6 +1,6 @@
 use borrow.Author.Needs.{needs}
-use Rattle.turns.proofs.ways.read.Statement.{statement}
-use Rattle.turns.proofs.ways.read.Tie as tie
+use Rattle.issuing.proofs.read.Statement.{statement}
+use Rattle.issuing.proofs.read.Tie as tie
 
 value-of-requires : tie.Need-value-of-requires
 value-of-requires c κs = search needs
