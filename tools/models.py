@@ -7,11 +7,6 @@ import subprocess
 ROOT = os.path.dirname(os.path.dirname(os.path.abspath(__file__)))
 
 
-def column(*numbers):
-    """Entries of a table, as the formatter sets them."""
-    return "".join("    %d,\n" % number for number in numbers)
-
-
 def read(path):
     with open(path) as file:
         return file.read()

@@ -15,8 +15,7 @@ use execution::executing;
 use execution::memory;
 use isa::Instruction;
 
-// one instruction on lent registers and data; a stop leaves them. The action is looked up once, since an indexed const table is
-// built anew at each use.
+// one instruction on lent registers and data; a stop leaves them. The action is looked up once and handed on.
 fn make(i: Instruction, data: &mut [u8], registers: &mut [u32; 32], address: u32) -> Advance
     requires { ⌜ (i .operation < 40) × (i .rs1 < 32) × (i .rs2 < 32) × (i .rd < 32) × (length (now registers) ≡ 32) ⌝ }
     ensures { λ r. ⌜ Step.stepWith i (Step.state (now (registers .entry)) address (now («data» .entry))) ≡ Step.reached (now (registers .exit)) (r .address) (now («data» .exit)) (r .stop) ⌝ }
