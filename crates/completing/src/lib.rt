@@ -31,7 +31,7 @@ fn wake_all(mut machine: Machine, name: u8, register: u8) -> Machine
     machine
 }
 
-// what the entry's values come to; replay's loop calls it too
+// what the values read come to. Inner: this crate and replay's loop call it.
 pub fn outcome(s: Setup, e: Entry) -> Outcome
     requires { ⌜ e .instruction .operation < 40 ⌝ }
     ensures { λ r. ⌜ r ≡ Complete.outcomeOf (s .bytes) e ⌝ }

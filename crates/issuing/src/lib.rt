@@ -56,7 +56,7 @@ fn issue_refusal(machine: Machine, position: usize) -> u8
     0
 }
 
-// the entry with the values that it reads; replay's loop calls it too
+// the entry with the values that it reads. Inner: this crate and replay's loop call it.
 pub fn read(values: &[u32; 96], data: &[u8], e: Entry) -> Entry
     requires { ⌜ (e .instruction .operation < 40) × (length (now values) ≡ 96) ⌝ }
     ensures { λ r. ⌜ r ≡ Issue.readEntry (now (values .entry)) (now («data» .entry)) e ⌝ }

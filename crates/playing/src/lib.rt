@@ -18,7 +18,7 @@ use turns::ways;
 
 // Makes every event of a schedule on the machine of its set-up, and counts them. Every case is made in place: the machine
 // stands in locals, whose tables are lent to `changes`; the loops over the entries stand here, since an array of structs
-// cannot be lent. Each arm ends the turn; a drop takes a turn for each entry.
+// cannot be lent. Each arm ends the turn; a drop takes a turn for each entry. Inner: `bench` calls it.
 pub fn play(machine: Machine, program: &[u8], data: &mut [u8], schedule: &[u8]) -> Played
     requires { ⌜ Play.Ready machine (now program) (now «data») (now schedule) ⌝ }
     ensures { λ r. ⌜ Numbers.playedBy r (now («data» .exit)) ≡ Play.playedOf (now (program .entry)) (now («data» .entry)) (now (schedule .entry)) ⌝ }

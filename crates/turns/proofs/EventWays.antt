@@ -199,10 +199,10 @@ module _ {program start schedule : List ℕ} {left index : ℕ} {m : Machine} {m
             complete-way accepted (dropTo keep k) ends s (m .count - keep) stolen (omega arith) added
 
         -- without a destination
-        pub settle-way : e .destination ≡ 0 → (done : Entry) → done ≡ predictedEntry (o .next) (completedEntry 0 e) → (fetch : ℕ) → fetch ≡ fetchAfter (o .next) (e .predicted) (m .fetch)
+        pub no-destination-way : e .destination ≡ 0 → (done : Entry) → done ≡ predictedEntry (o .next) (completedEntry 0 e) → (fetch : ℕ) → fetch ≡ fetchAfter (o .next) (e .predicted) (m .fetch)
             → (keep : ℕ) → keep ≡ keptAfter (o .next) (e .predicted) n (m .count) → after ≡ adding 0 0 (m .count - keep) counts
             → reaching (dropTo keep (withFetch fetch (place n done m))) memory after ≡ played program r (reaching m memory counts)
-        settle-way none done at fetch to keep stays added =
+        no-destination-way none done at fetch to keep stays added =
             let ended : Entry = completedEntry 0 e in
             let room : n < length (m .entries) = let h = c .there in omega (arith, roomy g) in
             let there = getD-set-same (m .entries) n ended emptyEntry room in

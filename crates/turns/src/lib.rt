@@ -1,4 +1,5 @@
-// One turn of replay's loop: which way an event goes, and what each way changes in the tables that the loop lends.
+// One turn of replay's loop: which way an event goes, and what each way changes in the tables that the loop lends. These are
+// inner functions: only the loop calls them.
 pub mod changes;
 pub mod ways;
 

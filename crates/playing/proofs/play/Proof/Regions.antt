@@ -20,7 +20,7 @@ use Rattle.events.specs.Numbers.{Small}
 use Rattle.turns.specs.declared.Way.{Way}
 use Rattle.turns.specs.declared.Way.the-variants.{Complete}
 use Rattle.turns.specs.declared.Ending.{Ending}
-use Rattle.turns.proofs.Going.{Going, goes-on, kept, small-enough}
+use Rattle.turns.proofs.Going.{Going, goes-on, small-enough}
 use Rattle.turns.proofs.Turning.{Turning, calm, long, long-values, machineOf}
 use Rattle.turns.proofs.WayLaws.{Completes, EndingSays, Says, ending-says, way-says}
 use Rattle.turns.proofs.EventWays.{reaching}

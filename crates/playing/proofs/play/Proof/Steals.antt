@@ -14,7 +14,6 @@ use Rattle.machine.proofs.ChangeLaws.{change-none, change-step}
 use Rattle.stealing.specs.Steal.{victimAmong, victimOf}
 use Rattle.stealing.proofs.StealLaws.{found-at, none-at, passed-at, victim-within}
 use Rattle.turns.specs.declared.Ending.the-variants.{Steals}
-use Rattle.turns.proofs.Going.{inside}
 use Rattle.turns.proofs.Turning.{settled}
 use Rattle.turns.proofs.EntryLaws.{change-end}
 use Rattle.turns.proofs.TheftLaws.{learnt-length}
@@ -100,7 +99,7 @@ search-again c =
     let p = way (c .before .before .before .before .before .before .before .before) in
     let l = (c .before .before .before .before .before) .search in
     let above = c .before .before .before .before .if6 .left in
-    let inside = l .inv .1 in
+    let below = l .inv .1 in
     (omega arith, omega arith, sym (passed-at (here p .physical) (here p .entries) (at p) (l .k) above (sym (c .before .held .ensures) ∙ c .if7 .left)) ∙ l .inv .2)
 
 pub refused-requires-2 : Given tie.Need-refused-requires-2

@@ -2,7 +2,7 @@
 use native.Mathlib.Omega.{arith}
 use borrow.Author.Needs.{needs}
 use Rattle.turns.specs.declared.Ending.the-variants.{WithoutDestination}
-use Rattle.turns.proofs.EventWays.{settle-way}
+use Rattle.turns.proofs.EventWays.{no-destination-way}
 use Rattle.playing.proofs.play.Tie as tie
 use Rattle.playing.proofs.play.Proof.Regions.{Given, at, completes, data-kept, ended, few, goes, going, outcome, outcome-is, small-counts, some-left, way, within}
 
@@ -55,7 +55,7 @@ turns-again-7 c =
       record {
         few = few p;
         going = goes p _
-            (settle-way (going p) _ _ (at p) (completes q) (outcome q) (outcome-is q) (s .0) (s .1) _ (c .before .before .before .finished .ensures)
+            (no-destination-way (going p) _ _ (at p) (completes q) (outcome q) (outcome-is q) (s .0) (s .1) _ (c .before .before .before .finished .ensures)
             _ (c .before .fetch-after .ensures) _ (c .before .before .kept-after .ensures .0) (c .accepted5 .ensures));
       },
     )
