@@ -15,38 +15,38 @@ use Rattle.tables.specs.Operand.{isReady}
 use Rattle.tables.specs.Entry.{isWaiting, isIssued, isCompleted, held}
 use Rattle.tables.specs.declared.State.{State as Stage}
 use Rattle.tables.specs.declared.State.the-variants.{Waits, Issued, Completed}
-use Rattle.machine.specs.Range.{machineInRange}
-use Rattle.machine.specs.Call.{halted, noEntry, lengthsDiffer, lentRefusal, inTurn, answered}
-use Rattle.machine.specs.Changes.{entryAt}
+use Rattle.core.specs.Range.{machineInRange}
+use Rattle.core.specs.Call.{halted, noEntry, lengthsDiffer, lentRefusal, inTurn, answered}
+use Rattle.core.specs.Changes.{entryAt}
 use Rattle.decoding.specs.Decode.{decodeRefusal, decoded, decodeOf}
 use Rattle.issuing.specs.Issue.{storeBelow, unready, issueRefusal, issued, issueOf}
 use Rattle.completing.specs.Complete.{outcomeAt, needsRegister, noneFree, completeRefusal, completed, completeOf}
 use Rattle.stealing.specs.Steal.{victimOf, noVictim}
 use Rattle.committing.specs.Commit.{commitRefusal, commitBy, commitOf}
-use Rattle.machine.specs.declared.Machine.{Machine}
-use Rattle.machine.specs.declared.Answer.{Answer}
+use Rattle.core.specs.declared.Core.{Core}
+use Rattle.core.specs.declared.Answer.{Answer}
 use Rattle.agreement.specs.Lists.{decode, issue, complete, commit, madeBy, callOf}
 use Rattle.agreement.proofs.Refusals.{first-none, empty-none, in-turn-none, no-some}
 use Rattle.agreement.proofs.Turns.{At}
 use Rattle.agreement.proofs.Victims.{victim-found}
 
-pub none-lent : (m : Machine) (program memory : List ℕ) → machineInRange m ≡ true → length program ≡ m .setup .program → length memory ≡ m .setup .bytes → lentRefusal m program memory ≡ 0
+pub none-lent : (m : Core) (program memory : List ℕ) → machineInRange m ≡ true → length program ≡ m .setup .program → length memory ≡ m .setup .bytes → lentRefusal m program memory ≡ 0
 unfolding lentRefusal
 none-lent m program memory r p b =
     first-none (not (machineInRange m)) 5 (when (lengthsDiffer m program memory) 6 ∷ []) (ap not r)
     (first-none (lengthsDiffer m program memory) 6 [] (ap not (both (eq-eqb (length program) (m .setup .program) p) (eq-eqb (length memory) (m .setup .bytes) b))) empty-none)
 
-answer-made : (m next : Machine) (memory : List ℕ) (refusal : ℕ) → refusal ≡ 0 → madeBy (answered m refusal next .machine) memory (answered m refusal next .number) ≡ madeBy next memory 0
+answer-made : (m next : Core) (memory : List ℕ) (refusal : ℕ) → refusal ≡ 0 → madeBy (answered m refusal next .core) memory (answered m refusal next .number) ≡ madeBy next memory 0
 answer-made m next memory refusal e = at (eqb refusal 0) (eq-eqb refusal 0 e)
   where
-    at : (b : Bool) → b ≡ true → let a : Answer = choose b (record { machine = next; number = 0 }) (record { machine = m; number = refusal }) in madeBy (a .machine) memory (a .number) ≡ madeBy next memory 0
+    at : (b : Bool) → b ≡ true → let a : Answer = choose b (record { core = next; number = 0 }) (record { core = m; number = refusal }) in madeBy (a .core) memory (a .number) ≡ madeBy next memory 0
     at true q = refl
     at false q = impossible q
 
-commit-none : (m : Machine) (memory : List ℕ) (refusal : ℕ) → refusal ≡ 0 → commitBy refusal memory m .answer .number ≡ 0
+commit-none : (m : Core) (memory : List ℕ) (refusal : ℕ) → refusal ≡ 0 → commitBy refusal memory m .answer .number ≡ 0
 commit-none m memory refusal e = rw (eq-eqb refusal 0 e)
 
-module _ (program memory : List ℕ) (m : Machine) (lent : lentRefusal m program memory ≡ 0) where
+module _ (program memory : List ℕ) (m : Core) (lent : lentRefusal m program memory ≡ 0) where
   pub decode-accepted : (guess : ℕ) → m .halt .cause ≡ 0 → m .count < m .setup .window → callOf program memory (decode guess) m ≡ madeBy (decoded program guess m) memory 0
   unfolding decodeOf decodeRefusal
   decode-accepted guess h l =
@@ -83,7 +83,7 @@ module _ (program memory : List ℕ) (m : Machine) (lent : lentRefusal m program
       (first-none (not (isCompleted (entryAt m 0 .state))) 13 [] (ap (λ (x : Stage). not (isCompleted x)) (h .state)) empty-none))))
 
 -- a register is there for the entry: it needs none, one is free, or a younger entry holds one
-pub data Supplied (m : Machine) (i : ℕ) : Type 0 where
+pub data Supplied (m : Core) (i : ℕ) : Type 0 where
   stopping : (outcomeAt m i .stop .cause ≡ 0 → ⊥) → Supplied m i
   needless : entryAt m i .destination ≡ 0 → Supplied m i
   free : (m .registerhead ≡ 0 → ⊥) → Supplied m i
@@ -96,7 +96,7 @@ and-none false b e = refl
 none-and : (a b : Bool) → a ≡ false → a && b ≡ false
 none-and a b e = rw e
 
-pub supplied-none : (m : Machine) (i : ℕ) → Supplied m i → needsRegister m i && noneFree m && noVictim m i ≡ false
+pub supplied-none : (m : Core) (i : ℕ) → Supplied m i → needsRegister m i && noneFree m && noVictim m i ≡ false
 supplied-none m i (stopping h) =
     none-and (needsRegister m i && noneFree m) (noVictim m i) (none-and (needsRegister m i) (noneFree m) (and-none (not (eqb (entryAt m i .destination) 0)) _ (ne-eqb (outcomeAt m i .stop .cause) 0 h)))
 supplied-none m i (needless h) =

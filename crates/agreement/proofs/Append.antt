@@ -8,7 +8,7 @@ use Rattle.reference.specs.Fetch.{fetchAt}
 use Rattle.reference.specs.Step.{State, destination, readRegister, stepOf}
 use Rattle.tables.specs.declared.Entry.{Entry}
 use Rattle.decoding.specs.Decode.{enteringCause}
-use Rattle.agreement.proofs.Core.{Core, append}
+use Rattle.agreement.proofs.View.{View, append}
 use Rattle.agreement.proofs.Ghost.{Ghost}
 use Rattle.agreement.proofs.Chains.{executionOf, Status, waits, stops, Executes, lastState}
 use Rattle.agreement.proofs.Pools.{nameOf, NamePool, Live}
@@ -25,7 +25,7 @@ pub name-left : (window : ℕ) (physical committed names : List ℕ) (head : ℕ
 name-left window physical committed names head link [] pool live h = absurd (omega (arith, pool .count))
 name-left window physical committed names head link (n ∷ ns) pool live h = (n, ns, pool, live)
 
-module _ (p : List ℕ) (s : State) (c : Core) (invariant : Invariant p s c) (x : Entry) (enters : Enters p c x) (space : length (c .entries) < c .setup .window) where
+module _ (p : List ℕ) (s : State) (c : View) (invariant : Invariant p s c) (x : Entry) (enters : Enters p c x) (space : length (c .entries) < c .setup .window) where
   abbrev g : Ghost
   g = invariant .ghost
 

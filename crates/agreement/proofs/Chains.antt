@@ -12,7 +12,7 @@ use Rattle.tables.specs.declared.State.{State as Stage}
 use Rattle.tables.specs.declared.State.the-variants.{Waits, Issued, Completed}
 use Rattle.tables.specs.declared.Entry.{Entry}
 use Rattle.decoding.specs.Decode.{enteringCause}
-use Rattle.agreement.proofs.Core.{nameIn}
+use Rattle.agreement.proofs.View.{nameIn}
 use Rattle.agreement.proofs.Ghost.{Ghost}
 
 -- renaming: nothing of states, registers or values

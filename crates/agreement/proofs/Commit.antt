@@ -11,7 +11,7 @@ use Rattle.execution.specs.declared.Stop.{Stop}
 use Rattle.tables.specs.Entry.{emptyEntry}
 use Rattle.tables.specs.declared.State.the-variants.{Completed}
 use Rattle.tables.specs.declared.Entry.{Entry}
-use Rattle.agreement.proofs.Core.{Core, dropsTo, retire, steer}
+use Rattle.agreement.proofs.View.{View, dropsTo, retire, steer}
 use Rattle.agreement.proofs.Chains.{renamingOf, Renamed, RenameChain, lastNames, executionOf, waits, reads, done, stops, Executes, followed, ExecutionChain, lastState}
 use Rattle.agreement.proofs.Contents.{holding, without, stopped, early, HoldsIn}
 use Rattle.agreement.proofs.Invariant.{Invariant, Emptied}
@@ -24,7 +24,7 @@ use Rattle.agreement.proofs.Drop.{drops-accounted, drops-entries}
 use Rattle.agreement.proofs.Unchanged.{drops-next}
 use Rattle.agreement.proofs.Retire.{retire-accounted}
 
-module _ (p : List ℕ) (s : State) (c : Core) (invariant : Invariant p s c) (some : 0 < length (c .entries)) (now : getD (c .entries) 0 emptyEntry .state ≡ Completed) where
+module _ (p : List ℕ) (s : State) (c : View) (invariant : Invariant p s c) (some : 0 < length (c .entries)) (now : getD (c .entries) 0 emptyEntry .state ≡ Completed) where
   abbrev e : Entry
   e = getD (c .entries) 0 emptyEntry
 
@@ -101,7 +101,7 @@ module _ (p : List ℕ) (s : State) (c : Core) (invariant : Invariant p s c) (so
             }
 
 -- all entries are dropped: the committed state is what is left
-pub drops-emptied : (p : List ℕ) (s : State) (c : Core) → Invariant p s c → Emptied s (dropsTo 0 (length (c .entries)) c)
+pub drops-emptied : (p : List ℕ) (s : State) (c : View) → Invariant p s c → Emptied s (dropsTo 0 (length (c .entries)) c)
 drops-emptied p s c invariant =
     record {
       ghost = invariant .ghost;
@@ -113,7 +113,7 @@ drops-emptied p s c invariant =
     }
 
 -- the machine halts, fetch and next address staying
-pub halt-emptied : (s : State) (c : Core) (fetch : ℕ) (why : Stop) → Emptied s c → Emptied s (steer fetch (c .next) why c)
+pub halt-emptied : (s : State) (c : View) (fetch : ℕ) (why : Stop) → Emptied s c → Emptied s (steer fetch (c .next) why c)
 halt-emptied s c fetch why a =
     record {
       ghost = a .ghost;
@@ -125,7 +125,7 @@ halt-emptied s c fetch why a =
     }
 
 -- what the general map then gives of a register
-pub emptied-value : (s : State) (c : Core) → Emptied s c → (r : ℕ) → 1 ≤ r → r < 32 → getD (c .values) (getD (c .registers) r 0) 0 ≡ readRegister (s .registers) r
+pub emptied-value : (s : State) (c : View) → Emptied s c → (r : ℕ) → 1 ≤ r → r < 32 → getD (c .values) (getD (c .registers) r 0) 0 ≡ readRegister (s .registers) r
 unfolding lastNames
 emptied-value s c a r l b =
     let n : c .names ≡ a .committed = rw (a .empty) at (a .accounting .shows) in
@@ -133,7 +133,7 @@ emptied-value s c a r l b =
     ap (λ (x : ℕ). getD (c .values) x 0) q ∙ a .accounting .contents .valued .held (getD (a .committed) r 0) (a .accounting .live .kept r l b) ∙ a .agree .values r b
 
 -- and that it has one
-pub emptied-register : (s : State) (c : Core) → Emptied s c → (r : ℕ) → 1 ≤ r → r < 32 → getD (c .registers) r 0 ≢ 0
+pub emptied-register : (s : State) (c : View) → Emptied s c → (r : ℕ) → 1 ≤ r → r < 32 → getD (c .registers) r 0 ≢ 0
 unfolding lastNames
 emptied-register s c a r l b z =
     let n : c .names ≡ a .committed = rw (a .empty) at (a .accounting .shows) in

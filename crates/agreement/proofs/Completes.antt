@@ -12,11 +12,11 @@ use Rattle.execution.specs.declared.Outcome.{Outcome}
 use Rattle.tables.specs.Entry.{emptyEntry, held, completedEntry, stoppedEntry, waitingEntry}
 use Rattle.tables.specs.declared.State.the-variants.{Issued, Completed}
 use Rattle.tables.specs.declared.Entry.{Entry}
-use Rattle.machine.specs.Changes.{entryAt, place}
+use Rattle.core.specs.Changes.{entryAt, place}
 use Rattle.completing.specs.Complete.{outcomeOf, outcomeAt, learned, redirected}
 use Rattle.stealing.specs.Steal.{robbed}
-use Rattle.machine.specs.declared.Machine.{Machine}
-use Rattle.agreement.proofs.Core.{Core, coreOf, informEntry, placed, release, learn, redirect}
+use Rattle.core.specs.declared.Core.{Core}
+use Rattle.agreement.proofs.View.{View, viewOf, informEntry, placed, release, learn, redirect}
 use Rattle.agreement.proofs.Ghost.{Ghost}
 use Rattle.agreement.proofs.Chains.{renamingOf, Renamed, executionOf, Executes}
 use Rattle.agreement.proofs.Pools.{RegisterPool}
@@ -36,7 +36,7 @@ use Rattle.agreement.proofs.Views.{seen-length, seen-entry, view-place,
 use Rattle.agreement.proofs.Learns.{Named, view-taken, view-stolen}
 
 -- an entry is placed
-tidy-placed : (i : ℕ) (x : Entry) (c : Core) → i < length (c .entries) → Tidy c → Plain (c .physical) x → Tidy (placed i x c)
+tidy-placed : (i : ℕ) (x : Entry) (c : View) → i < length (c .entries) → Tidy c → Plain (c .physical) x → Tidy (placed i x c)
 tidy-placed i x c inside t p =
     record {
       physical = t .physical;
@@ -51,7 +51,7 @@ tidy-placed i x c inside t p =
     }
 
 -- the entry at i is completed with the head of the pool
-module _ (p : List ℕ) (s : State) (c : Core) (invariant : Invariant p s c) (i : ℕ) (inside : i < length (c .entries)) (size : ℕ) (sized : length (s .memory) ≡ size)
+module _ (p : List ℕ) (s : State) (c : View) (invariant : Invariant p s c) (i : ℕ) (inside : i < length (c .entries)) (size : ℕ) (sized : length (s .memory) ≡ size)
     (now : getD (c .entries) i emptyEntry .state ≡ Issued) (o : Outcome) (is : outcomeOf size (getD (c .entries) i emptyEntry) ≡ o) (goes : o .stop .cause ≡ 0)
     (written : getD (c .entries) i emptyEntry .destination ≢ 0) (head : c .registerhead ≢ 0) where
   learn-tidy : Tidy (learn i (o .result) c)
@@ -73,7 +73,7 @@ module _ (p : List ℕ) (s : State) (c : Core) (invariant : Invariant p s c) (i 
       (learn-accounted g m c a i inside (named p s c invariant i inside written) (o .result) (q .0) (q .1) (q .2) now (issued-read p g t e size sized-here executes now .clean) value)
 
 -- an entry that is not released keeps all but its operands
-released-entry : (c : Core) (i j : ℕ) → i < length (c .entries) → i ≢ j → getD (release j c .entries) i emptyEntry ≡ informEntry (getD (c .entries) j emptyEntry .name) 0 (getD (c .entries) i emptyEntry)
+released-entry : (c : View) (i j : ℕ) → i < length (c .entries) → i ≢ j → getD (release j c .entries) i emptyEntry ≡ informEntry (getD (c .entries) j emptyEntry .name) 0 (getD (c .entries) i emptyEntry)
 unfolding release
 released-entry c i j h d =
     let f : Entry = getD (c .entries) j emptyEntry in
@@ -82,10 +82,10 @@ released-entry c i j h d =
     getD-within (map (informEntry (f .name) 0) l) i emptyEntry (informEntry (f .name) 0 emptyEntry) (omega arith)
     ∙ List·getD-map (informEntry (f .name) 0) l i emptyEntry ∙ ap (informEntry (f .name) 0) (getD-set-other (c .entries) j i (waitingEntry f) emptyEntry d)
 
-module _ (program : List ℕ) (s : State) (m : Machine) (k : Kept m) (invariant : Invariant program s (coreOf m)) (i : ℕ) (h : i < m .count) (now : entryAt m i .state ≡ Issued)
+module _ (program : List ℕ) (s : State) (m : Core) (k : Kept m) (invariant : Invariant program s (viewOf m)) (i : ℕ) (h : i < m .count) (now : entryAt m i .state ≡ Issued)
     (sized : length (s .memory) ≡ m .setup .bytes) where
-  abbrev c : Core
-  c = coreOf m
+  abbrev c : View
+  c = viewOf m
 
   abbrev o : Outcome
   o = outcomeAt m i
@@ -105,8 +105,8 @@ module _ (program : List ℕ) (s : State) (m : Machine) (k : Kept m) (invariant 
   tidy : Tidy c
   tidy = accounted-tidy (invariant .ghost) (invariant .committed) c (invariant .accounting)
 
-  pub stop-machine-keeps : o .stop .cause ≢ 0 → Invariant program s (coreOf (place i (stoppedEntry (o .stop) (entryAt m i)) m))
-  stop-machine-keeps z =
+  pub stop-core-keeps : o .stop .cause ≢ 0 → Invariant program s (viewOf (place i (stoppedEntry (o .stop) (entryAt m i)) m))
+  stop-core-keeps z =
       subst (Invariant program s) (sym (view-place i (stoppedEntry (o .stop) (entryAt m i)) m h))
       (subst (λ (e : Entry). Invariant program s (placed i (stoppedEntry (o .stop) e) c)) q (stop-keeps program s c invariant i inside (m .setup .bytes) sized now-seen o is z))
 
@@ -116,10 +116,10 @@ module _ (program : List ℕ) (s : State) (m : Machine) (k : Kept m) (invariant 
         let p : Plain (m .physical) (entryAt m i) = subst (Plain (m .physical)) q (tidy .entries i inside) in
         record { nameless = p .nameless; baseless = p .baseless; holds = look-get (m .physical) (entryAt m i .name) (tidy .physical) }
 
-    pub settle-machine-keeps : entryAt m i .destination ≡ 0 → Invariant program s (coreOf (redirected i (o .next) (place i (completedEntry 0 (entryAt m i)) m)))
-    settle-machine-keeps z =
+    pub settle-core-keeps : entryAt m i .destination ≡ 0 → Invariant program s (viewOf (redirected i (o .next) (place i (completedEntry 0 (entryAt m i)) m)))
+    settle-core-keeps z =
         let x : Entry = completedEntry 0 (entryAt m i) in
-        let v : coreOf (place i x m) ≡ placed i x c = view-place i x m h in
+        let v : viewOf (place i x m) ≡ placed i x c = view-place i x m h in
         subst (Invariant program s) (sym (view-redirected i (o .next) (place i x m) (kept-place m k i x) (subst Tidy (sym v) (tidy-placed i x c inside tidy plain-completed)) h ∙ ap (redirect i (o .next)) v))
         (subst (λ (e : Entry). Invariant program s (redirect i (o .next) (placed i (completedEntry 0 e) c))) q
         (finish-keeps-without program s c invariant i inside (m .setup .bytes) sized now-seen o is goes (ap (λ (e : Entry). e .destination) q ∙ z)))
@@ -131,10 +131,10 @@ module _ (program : List ℕ) (s : State) (m : Machine) (k : Kept m) (invariant 
       named-here : Named (entryAt m i)
       named-here = record { destination = written; name = λ z. named program s c invariant i inside written-seen (ap (λ (e : Entry). e .name) q ∙ z) }
 
-      pub take-machine-keeps : m .registerhead ≢ 0 → Invariant program s (coreOf (redirected i (o .next) (learned i (m .registerhead) (o .result) m)))
+      pub take-core-keeps : m .registerhead ≢ 0 → Invariant program s (viewOf (redirected i (o .next) (learned i (m .registerhead) (o .result) m)))
       unfolding learned
-      take-machine-keeps head =
-          let v : coreOf (learned i (m .registerhead) (o .result) m) ≡ learn i (o .result) c = view-taken i (o .result) m h named-here head in
+      take-core-keeps head =
+          let v : viewOf (learned i (m .registerhead) (o .result) m) ≡ learn i (o .result) c = view-taken i (o .result) m h named-here head in
           subst (Invariant program s)
           (sym (view-redirected i (o .next) (learned i (m .registerhead) (o .result) m) (kept-learned m k i (m .registerhead) (o .result) head)
           (subst Tidy (sym v) (learn-tidy program s c invariant i inside (m .setup .bytes) sized now-seen o is goes written-seen head)) h ∙ ap (redirect i (o .next)) v))
@@ -169,7 +169,7 @@ module _ (program : List ℕ) (s : State) (m : Machine) (k : Kept m) (invariant 
             held-outside (m .setup .registers) (m .physical) (m .registerhead) (m .registerlink) (invariant .accounting .freeRegisters) (invariant .accounting .registerPool) (entryAt m v .name)
             (held (m .physical) (entryAt m v)) (sym (plain-v .holds)) holds
 
-        view : coreOf (learned i (held (m .physical) (entryAt m v)) (o .result) (robbed v m)) ≡ learn i (o .result) (release v c)
+        view : viewOf (learned i (held (m .physical) (entryAt m v)) (o .result) (robbed v m)) ≡ learn i (o .result) (release v c)
         view = view-stolen v i (o .result) m k h there (λ z. omega arith) named-here named-v holds empty (plain-v .holds) outside
 
         released : Invariant program s (release v c)
@@ -183,9 +183,9 @@ module _ (program : List ℕ) (s : State) (m : Machine) (k : Kept m) (invariant 
             learn-tidy program s (release v c) released i (let l = released-length c v in let n = inside in omega arith) (m .setup .bytes) sized (ap (λ (e : Entry). e .state) like ∙ now-seen) o
             (ap (outcomeOf (m .setup .bytes)) like ∙ is) goes (λ z. written-seen (ap (λ (e : Entry). e .destination) (sym like) ∙ z)) (released-head c v has-seen)
 
-        pub steal-machine-keeps : Invariant program s (coreOf (redirected i (o .next) (learned i (held (m .physical) (entryAt m v)) (o .result) (robbed v m))))
+        pub steal-core-keeps : Invariant program s (viewOf (redirected i (o .next) (learned i (held (m .physical) (entryAt m v)) (o .result) (robbed v m))))
         unfolding learned robbed
-        steal-machine-keeps =
+        steal-core-keeps =
             subst (Invariant program s)
             (sym (view-redirected i (o .next) (learned i (held (m .physical) (entryAt m v)) (o .result) (robbed v m)) (kept-learned (robbed v m) (kept-robbed m k v) i (held (m .physical) (entryAt m v)) (o .result) holds)
             (subst Tidy (sym view) tidy-after) h ∙ ap (redirect i (o .next)) view))

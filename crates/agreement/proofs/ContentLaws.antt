@@ -10,7 +10,7 @@ use lib.Seq.{getD-set-other, getD-set-same}
 use Rattle.tables.specs.declared.Operand.{Operand}
 use Rattle.tables.specs.declared.State.{State as Stage}
 use Rattle.tables.specs.declared.Entry.{Entry}
-use Rattle.agreement.proofs.Core.{operandFor, nameIn, informed, informEntry, reshown}
+use Rattle.agreement.proofs.View.{operandFor, nameIn, informed, informEntry, reshown}
 use Rattle.agreement.proofs.Ghost.{Ghost, Writers}
 use Rattle.agreement.proofs.Chains.{renamingOf}
 use Rattle.agreement.proofs.Contents.{ShownIn, Holds, holding, without, stopped, early, Valued, GeneralMap}

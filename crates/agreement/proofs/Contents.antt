@@ -8,7 +8,7 @@ use Rattle.tables.specs.declared.Operand.{Operand}
 use Rattle.tables.specs.declared.State.{State as Stage}
 use Rattle.tables.specs.declared.State.the-variants.{Completed}
 use Rattle.tables.specs.declared.Entry.{Entry}
-use Rattle.agreement.proofs.Core.{operandFor, nameIn}
+use Rattle.agreement.proofs.View.{operandFor, nameIn}
 use Rattle.agreement.proofs.Ghost.{Ghost}
 
 -- a property of every element

@@ -16,7 +16,7 @@ use Rattle.tables.specs.declared.Operand.the-variants.{Zero}
 use Rattle.tables.specs.declared.State.the-variants.{Waits}
 use Rattle.tables.specs.declared.Entry.{Entry}
 use Rattle.decoding.specs.Decode.{enteringCause, endedEntry}
-use Rattle.agreement.proofs.Core.{Core, operandFor, append}
+use Rattle.agreement.proofs.View.{View, operandFor, append}
 use Rattle.agreement.proofs.Invariant.{Invariant}
 use Rattle.agreement.proofs.Tests.{equal, apart, eq?}
 use Rattle.agreement.proofs.Steps.{Unnamed, entering-unnamed}
@@ -28,7 +28,7 @@ operand-zero : (register : ℕ) → operandFor 0 register ≡ Zero
 unfolding operandFor
 operand-zero register = refl
 
-pub ended-enters : (p : List ℕ) (s : State) (c : Core) → Invariant p s c → enteringCause (fetchAt p (c .fetch)) ≢ 0
+pub ended-enters : (p : List ℕ) (s : State) (c : View) → Invariant p s c → enteringCause (fetchAt p (c .fetch)) ≢ 0
     → Enters p c (endedEntry (c .fetch) (fetchAt p (c .fetch) .fields) (enteringCause (fetchAt p (c .fetch))))
 ended-enters p s c invariant z =
     let u : Unnamed (fetchAt p (c .fetch) .fields) = entering-unnamed p (c .fetch) z in
@@ -47,7 +47,7 @@ ended-enters p s c invariant z =
     }
 
 -- an instruction that is executed: its operands as the general map shows them
-abbrev pub startedIn : Core → Instruction → ℕ → Entry
+abbrev pub startedIn : View → Instruction → ℕ → Entry
 startedIn c i guess =
     record {
       instruction = i;
@@ -65,7 +65,7 @@ startedIn c i guess =
       stop = stop 0;
     }
 
-pub started-enters : (p : List ℕ) (c : Core) (guess : ℕ) → enteringCause (fetchAt p (c .fetch)) ≡ 0 → Enters p c (startedIn c (fetchAt p (c .fetch) .fields) guess)
+pub started-enters : (p : List ℕ) (c : View) (guess : ℕ) → enteringCause (fetchAt p (c .fetch)) ≡ 0 → Enters p c (startedIn c (fetchAt p (c .fetch) .fields) guess)
 started-enters p c guess z =
     record {
       instruction = refl;
@@ -80,15 +80,15 @@ started-enters p c guess z =
       stops = λ q. absurd (q z);
     }
 
-abbrev pub entryIn : Core → FetchNumbers → ℕ → Entry
+abbrev pub entryIn : View → FetchNumbers → ℕ → Entry
 entryIn c f guess = choose (eqb (enteringCause f) 0) (startedIn c (f .fields) guess) (endedEntry (c .fetch) (f .fields) (enteringCause f))
 
-pub entry-enters : (p : List ℕ) (s : State) (c : Core) (guess : ℕ) → Invariant p s c → Enters p c (entryIn c (fetchAt p (c .fetch)) guess)
+pub entry-enters : (p : List ℕ) (s : State) (c : View) (guess : ℕ) → Invariant p s c → Enters p c (entryIn c (fetchAt p (c .fetch)) guess)
 entry-enters p s c guess invariant = elim (eq? (enteringCause (fetchAt p (c .fetch))) 0) [
   | equal e t ↦ rw t (started-enters p c guess e)
   | apart e t ↦ rw t (ended-enters p s c invariant e)
 ]
 
-pub decode-keeps : (p : List ℕ) (s : State) (c : Core) (guess : ℕ) → Invariant p s c → length (c .entries) < c .setup .window
+pub decode-keeps : (p : List ℕ) (s : State) (c : View) (guess : ℕ) → Invariant p s c → length (c .entries) < c .setup .window
     → let x : Entry = entryIn c (fetchAt p (c .fetch)) guess in Invariant p s (append (x .destination) x c)
 decode-keeps p s c guess invariant space = append-keeps p s c invariant (entryIn c (fetchAt p (c .fetch)) guess) (entry-enters p s c guess invariant) space

@@ -14,13 +14,13 @@ use Rattle.reference.specs.Step.{State}
 use Rattle.execution.specs.declared.Stop.{Stop}
 use Rattle.tables.specs.Table.{lookUp}
 use Rattle.tables.proofs.TableLaws.{look-within}
-use Rattle.machine.specs.Drop.{dropTo}
-use Rattle.machine.specs.Report.{valueIn}
-use Rattle.machine.specs.declared.Machine.{Machine}
-use Rattle.machine.proofs.DropLaws.{drop-done}
+use Rattle.core.specs.Drop.{dropTo}
+use Rattle.core.specs.Report.{valueIn}
+use Rattle.core.specs.declared.Core.{Core}
+use Rattle.core.proofs.DropLaws.{drop-done}
 use Rattle.agreement.specs.Lists.{World, makeAll, acceptedCommits, started, origin}
 use Rattle.agreement.specs.Statement.{Agrees, Statement}
-use Rattle.agreement.proofs.Core.{coreOf}
+use Rattle.agreement.proofs.View.{viewOf}
 use Rattle.agreement.proofs.Invariant.{Emptied}
 use Rattle.agreement.proofs.Commit.{emptied-value, emptied-register}
 use Rattle.agreement.proofs.Steps.{read-some}
@@ -33,15 +33,15 @@ use Rattle.agreement.proofs.Reaching.{list-reached, reached-range}
 use Rattle.agreement.proofs.Onward.{commits-within}
 
 -- the general map of a machine without entries shows the committed values
-emptied-shows : (s : State) (m : Machine) → Emptied s (coreOf m) → (r : ℕ) → 1 ≤ r → r < 32 → valueIn m r ≡ getD (s .registers) r 0
+emptied-shows : (s : State) (m : Core) → Emptied s (viewOf m) → (r : ℕ) → 1 ≤ r → r < 32 → valueIn m r ≡ getD (s .registers) r 0
 emptied-shows s m a r l h =
     let nz : r ≢ 0 = λ z. omega arith in
     let register : lookUp (m .mapregister) r ≡ getD (m .mapregister) r 0 = sym (look-within (m .mapregister) r nz) in
-    ap (lookUp (m .values)) register ∙ sym (look-within (m .values) (getD (m .mapregister) r 0) (emptied-register s (coreOf m) a r l h)) ∙ emptied-value s (coreOf m) a r l h ∙ read-some (s .registers) r nz
+    ap (lookUp (m .values)) register ∙ sym (look-within (m .values) (getD (m .mapregister) r 0) (emptied-register s (viewOf m) a r l h)) ∙ emptied-value s (viewOf m) a r l h ∙ read-some (s .registers) r nz
 
 module _ (program : List ℕ) (begin : State) (n : ℕ) (w : World) (r : Reached program begin n w) where
-  abbrev m : Machine
-  m = w .machine
+  abbrev m : Core
+  m = w .core
 
   fit : Fit program w
   fit = r .fit
@@ -62,7 +62,7 @@ module _ (program : List ℕ) (begin : State) (n : ℕ) (w : World) (r : Reached
       let none : m .count ≡ 0 = sym (seen-length m (fit .kept)) ∙ ap length (empty .empty) in
       subst (Agrees program w n) (sym run) (record {
         registers = report-is m (s .registers) (reached-range program begin n w r) (empty .agree .size) zeros
-            (emptied-shows s (dropTo 0 m) (subst (λ (x : Machine). Emptied s (coreOf x)) (sym (drop-done 0 m (omega arith))) empty));
+            (emptied-shows s (dropTo 0 m) (subst (λ (x : Core). Emptied s (viewOf x)) (sym (drop-done 0 m (omega arith))) empty));
         memory = memory;
         next = empty .next;
         halt = refl;

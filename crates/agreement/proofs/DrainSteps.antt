@@ -12,15 +12,15 @@ use Rattle.execution.specs.declared.Stop.{Stop}
 use Rattle.tables.specs.Entry.{emptyEntry, stateNumber}
 use Rattle.tables.specs.declared.State.{State as Stage}
 use Rattle.tables.specs.declared.State.the-variants.{Waits, Issued, Completed}
-use Rattle.machine.specs.Call.{halted, lentRefusal, inTurn, answered}
-use Rattle.machine.specs.Changes.{entryAt}
-use Rattle.machine.specs.Drop.{dropTo}
+use Rattle.core.specs.Call.{halted, lentRefusal, inTurn, answered}
+use Rattle.core.specs.Changes.{entryAt}
+use Rattle.core.specs.Drop.{dropTo}
 use Rattle.issuing.specs.Issue.{issueRefusal, issued, issueOf}
 use Rattle.completing.specs.Complete.{completeRefusal, completed, completeOf}
 use Rattle.committing.specs.Commit.{commitRefusal, haltedBy, moveDown, retired, committed, writtenBy, Commit, commitBy, commitOf}
 use Rattle.window.specs.Drain.{neededBy, idle}
-use Rattle.machine.specs.declared.Machine.{Machine}
-use Rattle.machine.specs.declared.Answer.{Answer}
+use Rattle.core.specs.declared.Core.{Core}
+use Rattle.core.specs.declared.Answer.{Answer}
 use Rattle.agreement.proofs.Refusals.{is-zero}
 use Rattle.agreement.proofs.Tests.{by-choice}
 use Rattle.agreement.proofs.Turns.{At}
@@ -28,7 +28,7 @@ use Rattle.agreement.proofs.Views.{drops-count}
 use Rattle.agreement.proofs.Oldest.{issued-at, completed-at}
 use Rattle.agreement.proofs.Shrinks.{shrinks-issued, shrinks-drops, shrinks-completed}
 
-abbrev pub ahead : Machine → ℕ
+abbrev pub ahead : Core → ℕ
 ahead m = 3 * m .count - stateNumber (entryAt m 0 .state)
 
 stage-most : (s : Stage) → stateNumber s ≤ 2
@@ -37,14 +37,14 @@ stage-most Issued = omega arith
 stage-most Completed = omega arith
 
 -- nothing is ahead of an empty window alone
-pub none-ahead : (m : Machine) → ahead m ≤ 0 → m .count ≡ 0
+pub none-ahead : (m : Core) → ahead m ≤ 0 → m .count ≡ 0
 none-ahead m h = let s = stage-most (entryAt m 0 .state) in omega arith
 
 -- an idle machine has no entry or halted; another runs and has one
-pub idle-empty : (m : Machine) → m .count ≡ 0 → idle m ≡ true
+pub idle-empty : (m : Core) → m .count ≡ 0 → idle m ≡ true
 idle-empty m e = rw (eq-eqb (m .count) 0 e)
 
-pub busy : (m : Machine) → idle m ≡ false → At m 0 (entryAt m 0 .state)
+pub busy : (m : Core) → idle m ≡ false → At m 0 (entryAt m 0 .state)
 busy m e = at (eqb (m .count) 0) refl e
   where
     at : (b : Bool) → eqb (m .count) 0 ≡ b → b || halted m ≡ false → At m 0 (entryAt m 0 .state)
@@ -52,30 +52,30 @@ busy m e = at (eqb (m .count) 0) refl e
     at false q z = record { runs = is-zero (m .halt .cause) z; there = let n = eqb-false (m .count) 0 q in omega arith; state = refl }
 
 -- less is ahead, and the array has a place for the oldest entry
-pub record Lower (m k : Machine) : Type 0 where
+pub record Lower (m k : Core) : Type 0 where
   pub room : 0 < length (k .entries)
   pub less : ahead k < ahead m
 
-retired-count : (m : Machine) → retired m .count ≡ m .count - 1
+retired-count : (m : Core) → retired m .count ≡ m .count - 1
 unfolding retired
 retired-count m = refl
 
-retired-room : (m : Machine) → 0 < length (retired m .entries)
+retired-room : (m : Core) → 0 < length (retired m .entries)
 unfolding retired moveDown
 retired-room m = let l = length-append (drop 1 (take (m .count) (m .entries))) (emptyEntry ∷ drop (m .count) (m .entries)) in omega arith
 
-halted-count : (why : Stop) (m : Machine) → haltedBy why m .count ≡ m .count
+halted-count : (why : Stop) (m : Core) → haltedBy why m .count ≡ m .count
 unfolding haltedBy
 halted-count why m = refl
 
-halted-entries : (why : Stop) (m : Machine) → haltedBy why m .entries ≡ m .entries
+halted-entries : (why : Stop) (m : Core) → haltedBy why m .entries ≡ m .entries
 unfolding haltedBy
 halted-entries why m = refl
 
-module _ (m : Machine) (room : 0 < length (m .entries)) where
+module _ (m : Core) (room : 0 < length (m .entries)) where
   issue-lowers : (memory : List ℕ) → At m 0 Waits → Lower m (issued memory 0 m)
   issue-lowers memory a =
-      let k : Machine = issued memory 0 m in
+      let k : Core = issued memory 0 m in
       let s = shrinks-issued memory 0 m in
       let c = s .count in
       let l = s .length in
@@ -86,7 +86,7 @@ module _ (m : Machine) (room : 0 < length (m .entries)) where
 
   complete-lowers : At m 0 Issued → Lower m (completed 0 m)
   complete-lowers a =
-      let k : Machine = completed 0 m in
+      let k : Core = completed 0 m in
       let s = shrinks-completed 0 m in
       let c = s .count in
       let l = s .length in
@@ -105,7 +105,7 @@ module _ (m : Machine) (room : 0 < length (m .entries)) where
   halt-lowers : (why : Stop) → At m 0 Completed → Lower m (haltedBy why (dropTo 0 m))
   halt-lowers why a =
       let before : stateNumber (entryAt m 0 .state) ≡ 2 = ap stateNumber (a .state) in
-      let d : Machine = dropTo 0 m in
+      let d : Core = dropTo 0 m in
       let c = halted-count why d in
       let n = drops-count (m .count - 0) m in
       let l = shrinks-drops (m .count - 0) m .length in
@@ -119,18 +119,18 @@ module _ (m : Machine) (room : 0 < length (m .entries)) where
       by-choice (Lower m) (eqb (why .cause) 0) (retired m) (haltedBy why (dropTo 0 m)) (λ x. retire-lowers a) (λ x. halt-lowers why a)
 
   -- an answer and a commit, if accepted
-  answer-lowers : (next : Machine) (refusal : ℕ) → Lower m next → answered m refusal next .number ≡ 0 → Lower m (answered m refusal next .machine)
+  answer-lowers : (next : Core) (refusal : ℕ) → Lower m next → answered m refusal next .number ≡ 0 → Lower m (answered m refusal next .core)
   answer-lowers next refusal l =
-      by-choice (λ (a : Answer). a .number ≡ 0 → Lower m (a .machine)) (eqb refusal 0) (record { machine = next; number = 0 }) (record { machine = m; number = refusal })
+      by-choice (λ (a : Answer). a .number ≡ 0 → Lower m (a .core)) (eqb refusal 0) (record { core = next; number = 0 }) (record { core = m; number = refusal })
       (λ e z. l) (λ e z. absurd (eqb-false refusal 0 e z))
 
-  by-lowers : (memory : List ℕ) (refusal : ℕ) → Lower m (committed m) → commitBy refusal memory m .answer .number ≡ 0 → Lower m (commitBy refusal memory m .answer .machine)
+  by-lowers : (memory : List ℕ) (refusal : ℕ) → Lower m (committed m) → commitBy refusal memory m .answer .number ≡ 0 → Lower m (commitBy refusal memory m .answer .core)
   by-lowers memory refusal l =
-      by-choice (λ (c : Commit). c .answer .number ≡ 0 → Lower m (c .answer .machine)) (eqb refusal 0)
-      (record { answer = record { machine = committed m; number = 0 }; memory = writtenBy (entryAt m 0) memory }) (record { answer = record { machine = m; number = refusal }; memory = memory })
+      by-choice (λ (c : Commit). c .answer .number ≡ 0 → Lower m (c .answer .core)) (eqb refusal 0)
+      (record { answer = record { core = committed m; number = 0 }; memory = writtenBy (entryAt m 0) memory }) (record { answer = record { core = m; number = refusal }; memory = memory })
       (λ e z. l) (λ e z. absurd (eqb-false refusal 0 e z))
 
-  pub needed-lowers : (program memory : List ℕ) (s : Stage) → At m 0 s → neededBy s program memory m .answer .number ≡ 0 → Lower m (neededBy s program memory m .answer .machine)
+  pub needed-lowers : (program memory : List ℕ) (s : Stage) → At m 0 s → neededBy s program memory m .answer .number ≡ 0 → Lower m (neededBy s program memory m .answer .core)
   unfolding issueOf completeOf commitOf
   needed-lowers program memory Waits a = answer-lowers (issued memory 0 m) (inTurn (lentRefusal m program memory) (issueRefusal 0 m)) (issue-lowers memory a)
   needed-lowers program memory Issued a = answer-lowers (completed 0 m) (inTurn (lentRefusal m program memory) (completeRefusal 0 m)) (complete-lowers a)

@@ -12,54 +12,54 @@ use Rattle.isa.specs.Reads.{choose}
 use Rattle.laws.proofs.Bools.{impossible, and-left, and-right}
 use Rattle.tables.specs.Entry.{emptyEntry}
 use Rattle.tables.specs.declared.Entry.{Entry}
-use Rattle.machine.specs.Range.{entriesInRange, tablesInRange, machineInRange}
+use Rattle.core.specs.Range.{entriesInRange, tablesInRange, machineInRange}
 use Rattle.ranges.specs.Tables.{everyFrom}
 use Rattle.ranges.specs.Sizes.{setupInRange}
 use Rattle.ranges.specs.Entries.{entryInRange}
-use Rattle.machine.specs.Call.{lentRefusal}
-use Rattle.machine.specs.Changes.{entryAt}
+use Rattle.core.specs.Call.{lentRefusal}
+use Rattle.core.specs.Changes.{entryAt}
 use Rattle.committing.specs.Commit.{Commit}
 use Rattle.window.specs.Drain.{neededOf, Drain, idle, drainEnds, drainFrom, drainOf}
 use Rattle.ranges.specs.declared.Setup.{Setup}
-use Rattle.machine.specs.declared.Machine.{Machine}
-use Rattle.machine.proofs.RefusalLaws.{in-range-lent}
+use Rattle.core.specs.declared.Core.{Core}
+use Rattle.core.proofs.RefusalLaws.{in-range-lent}
 use Rattle.agreement.proofs.Tests.{by-choice}
 use Rattle.agreement.proofs.DrainSteps.{ahead, none-ahead, idle-empty, busy, Lower, needed-lowers}
 
 -- at most so many calls more
-from-calls : (n : ℕ) (program memory : List ℕ) (m : Machine) (calls : ℕ) → drainFrom n program memory m calls .calls ≤ calls + n
+from-calls : (n : ℕ) (program memory : List ℕ) (m : Core) (calls : ℕ) → drainFrom n program memory m calls .calls ≤ calls + n
 unfolding drainFrom
 from-calls zero program memory m calls = omega arith
 from-calls (suc n) program memory m calls =
     let made : Commit = neededOf program memory m in
-    let more : Drain = drainFrom n program (made .memory) (made .answer .machine) (suc calls) in
-    let over : Drain = drainEnds (made .memory) (made .answer .machine) calls (made .answer .number) in
+    let more : Drain = drainFrom n program (made .memory) (made .answer .core) (suc calls) in
+    let over : Drain = drainEnds (made .memory) (made .answer .core) calls (made .answer .number) in
     let most : Drain → Type 0 = λ d. d .calls ≤ calls + suc n in
     by-choice most (idle m) (drainEnds memory m calls 0) (choose (eqb (made .answer .number) 0) more over) (λ e. omega arith) (λ e.
-    by-choice most (eqb (made .answer .number) 0) more over (λ z. let r = from-calls n program (made .memory) (made .answer .machine) (suc calls) in omega arith) (λ z. omega arith))
+    by-choice most (eqb (made .answer .number) 0) more over (λ z. let r = from-calls n program (made .memory) (made .answer .core) (suc calls) in omega arith) (λ z. omega arith))
 
-pub of-calls : (program memory : List ℕ) (m : Machine) → drainOf program memory m .calls ≤ 3 * m .count
+pub of-calls : (program memory : List ℕ) (m : Core) → drainOf program memory m .calls ≤ 3 * m .count
 unfolding drainOf
 of-calls program memory m =
     by-choice (λ (d : Drain). d .calls ≤ 3 * m .count) (eqb (lentRefusal m program memory) 0) (drainFrom (3 * m .count) program memory m 0) (drainEnds memory m 0 (lentRefusal m program memory))
     (λ e. let r = from-calls (3 * m .count) program memory m 0 in omega arith) (λ e. omega arith)
 
 -- it ends with no entry left or halted
-from-ends : (n : ℕ) (program memory : List ℕ) (m : Machine) (calls : ℕ) → (0 < m .count → 0 < length (m .entries)) → ahead m ≤ n
-    → drainFrom n program memory m calls .number ≡ 0 → idle (drainFrom n program memory m calls .machine) ≡ true
+from-ends : (n : ℕ) (program memory : List ℕ) (m : Core) (calls : ℕ) → (0 < m .count → 0 < length (m .entries)) → ahead m ≤ n
+    → drainFrom n program memory m calls .number ≡ 0 → idle (drainFrom n program memory m calls .core) ≡ true
 unfolding drainFrom
 from-ends zero program memory m calls room h = λ z. idle-empty m (none-ahead m h)
 from-ends (suc n) program memory m calls room h =
     let made : Commit = neededOf program memory m in
-    let more : Drain = drainFrom n program (made .memory) (made .answer .machine) (suc calls) in
-    let over : Drain = drainEnds (made .memory) (made .answer .machine) calls (made .answer .number) in
-    by-choice (λ (d : Drain). d .number ≡ 0 → idle (d .machine) ≡ true) (idle m) (drainEnds memory m calls 0) (choose (eqb (made .answer .number) 0) more over) (λ e z. e) (λ e.
-    by-choice (λ (d : Drain). d .number ≡ 0 → idle (d .machine) ≡ true) (eqb (made .answer .number) 0) more over
+    let more : Drain = drainFrom n program (made .memory) (made .answer .core) (suc calls) in
+    let over : Drain = drainEnds (made .memory) (made .answer .core) calls (made .answer .number) in
+    by-choice (λ (d : Drain). d .number ≡ 0 → idle (d .core) ≡ true) (idle m) (drainEnds memory m calls 0) (choose (eqb (made .answer .number) 0) more over) (λ e z. e) (λ e.
+    by-choice (λ (d : Drain). d .number ≡ 0 → idle (d .core) ≡ true) (eqb (made .answer .number) 0) more over
     (λ q.
     let a = busy m e in
-    let l : Lower m (made .answer .machine) = needed-lowers m (room (a .there)) program memory (entryAt m 0 .state) a (eqb-true (made .answer .number) 0 q) in
+    let l : Lower m (made .answer .core) = needed-lowers m (room (a .there)) program memory (entryAt m 0 .state) a (eqb-true (made .answer .number) 0 q) in
     let less = l .less in
-    from-ends n program (made .memory) (made .answer .machine) (suc calls) (λ x. l .room) (omega arith))
+    from-ends n program (made .memory) (made .answer .core) (suc calls) (λ x. l .room) (omega arith))
     (λ q z. absurd (eqb-false (made .answer .number) 0 q z)))
 
 -- a machine in range with an entry has a place for it: a place beyond the array is all zeros, which is no entry in range
@@ -73,7 +73,7 @@ some-place s count (e ∷ entries) t h = omega arith
 some-place s zero [] t h = absurd (omega arith)
 some-place s (suc count) [] t h = impossible (sym (empty-refused s) ∙ and-left (entryInRange s emptyEntry) (everyFrom (entryInRange s) emptyEntry 1 count []) t)
 
-in-range-place : (m : Machine) → machineInRange m ≡ true → 0 < m .count → 0 < length (m .entries)
+in-range-place : (m : Core) → machineInRange m ≡ true → 0 < m .count → 0 < length (m .entries)
 unfolding machineInRange
 in-range-place m t h =
     let a = setupInRange (m .setup) in
@@ -81,10 +81,10 @@ in-range-place m t h =
     let c = tablesInRange m in
     some-place (m .setup) (m .count) (m .entries) (and-right (a && b && c) (entriesInRange (m .setup) (m .count) (m .entries)) t) h
 
-pub of-ends : (program memory : List ℕ) (m : Machine) → drainOf program memory m .number ≡ 0 → idle (drainOf program memory m .machine) ≡ true
+pub of-ends : (program memory : List ℕ) (m : Core) → drainOf program memory m .number ≡ 0 → idle (drainOf program memory m .core) ≡ true
 unfolding drainOf
 of-ends program memory m =
     let lent : ℕ = lentRefusal m program memory in
-    by-choice (λ (d : Drain). d .number ≡ 0 → idle (d .machine) ≡ true) (eqb lent 0) (drainFrom (3 * m .count) program memory m 0) (drainEnds memory m 0 lent)
+    by-choice (λ (d : Drain). d .number ≡ 0 → idle (d .core) ≡ true) (eqb lent 0) (drainFrom (3 * m .count) program memory m 0) (drainEnds memory m 0 lent)
     (λ e. from-ends (3 * m .count) program memory m 0 (in-range-place m (in-range-lent m program memory (eqb-true lent 0 e))) (omega arith))
     (λ e z. absurd (eqb-false lent 0 e z))

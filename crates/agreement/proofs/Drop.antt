@@ -9,7 +9,7 @@ use lib.Seq.{getD-set-other, getD-set-same, set-getD, set-set, take-suc, take-al
 use Rattle.tables.specs.FreeList.{occurrences}
 use Rattle.tables.specs.Entry.{emptyEntry}
 use Rattle.tables.specs.declared.Entry.{Entry}
-use Rattle.agreement.proofs.Core.{Core, dropAt, dropsTo}
+use Rattle.agreement.proofs.View.{View, dropAt, dropsTo}
 use Rattle.agreement.proofs.Ghost.{Ghost}
 use Rattle.agreement.proofs.Chains.{renamingOf, Renamed, lastNames}
 use Rattle.agreement.proofs.Contents.{All, ShownIn, HoldsIn, GeneralMap}
@@ -25,7 +25,7 @@ use Rattle.agreement.proofs.Walks.{renamed-at, renamed-take, last-names
 use Rattle.agreement.proofs.ContentLaws.{clear-other, shown-clear, holds-clear, valued-clear}
 use Rattle.agreement.proofs.NameFacts.{no-name, entry-range, not-committed}
 
-module _ (g : Ghost) (m : List ℕ) (c : Core) (accounting : Accounting g m c) (n : ℕ) (is : length (c .entries) ≡ suc n) where
+module _ (g : Ghost) (m : List ℕ) (c : View) (accounting : Accounting g m c) (n : ℕ) (is : length (c .entries) ≡ suc n) where
   abbrev e : Entry
   e = getD (c .entries) n emptyEntry
 
@@ -123,13 +123,13 @@ module _ (g : Ghost) (m : List ℕ) (c : Core) (accounting : Accounting g m c) (
   }
 
 -- and so on, until n are left
-pub drops-accounted : (g : Ghost) (m : List ℕ) (n j : ℕ) (c : Core) → Accounting g m c → length (c .entries) ≡ n + j → Accounting g m (dropsTo n j c)
+pub drops-accounted : (g : Ghost) (m : List ℕ) (n j : ℕ) (c : View) → Accounting g m c → length (c .entries) ≡ n + j → Accounting g m (dropsTo n j c)
 unfolding dropsTo dropAt
 drops-accounted g m n zero c accounting h = accounting
 drops-accounted g m n (suc j) c accounting h =
     drops-accounted g m n j (dropAt (n + j) c) (dropped-accounted g m c accounting (n + j) (omega arith)) (length-take-le (n + j) (c .entries) (omega arith))
 
-pub drops-entries : (n j : ℕ) (c : Core) → length (c .entries) ≡ n + j → dropsTo n j c .entries ≡ take n (c .entries)
+pub drops-entries : (n j : ℕ) (c : View) → length (c .entries) ≡ n + j → dropsTo n j c .entries ≡ take n (c .entries)
 unfolding dropsTo dropAt
 drops-entries n zero c h = sym (take-all n (c .entries) (omega arith))
 drops-entries n (suc j) c h = drops-entries n j (dropAt (n + j) c) (length-take-le (n + j) (c .entries) (omega arith)) ∙ take-take n (n + j) (c .entries) (omega arith)

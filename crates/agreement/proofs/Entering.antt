@@ -13,7 +13,7 @@ use Rattle.tables.specs.FreeList.{occurrences}
 use Rattle.tables.specs.declared.State.the-variants.{Waits, Completed}
 use Rattle.tables.specs.declared.Entry.{Entry}
 use Rattle.decoding.specs.Decode.{enteringCause}
-use Rattle.agreement.proofs.Core.{Core, operandFor, nameIn, append}
+use Rattle.agreement.proofs.View.{View, operandFor, nameIn, append}
 use Rattle.agreement.proofs.Ghost.{Ghost}
 use Rattle.agreement.proofs.Chains.{renamingOf, Renamed, lastNames}
 use Rattle.agreement.proofs.Contents.{All, Shown, ShownIn, stopped, early, HoldsIn, GeneralMap}
@@ -31,7 +31,7 @@ use Rattle.agreement.proofs.NameFacts.{no-name}
 use Rattle.agreement.proofs.GhostLaws.{renamed-ghost, writers-ghost, valued-ghost}
 
 -- what decode enters, as the list view shows it
-pub record Enters (program : List ℕ) (c : Core) (x : Entry) : Type 0 where
+pub record Enters (program : List ℕ) (c : View) (x : Entry) : Type 0 where
   pub instruction : x .instruction ≡ fetchAt program (c .fetch) .fields
   pub address : x .address ≡ c .fetch
   pub left : x .left ≡ operandFor (getD (c .names) (firstSource (x .instruction)) 0) (getD (c .registers) (firstSource (x .instruction)) 0)
@@ -44,7 +44,7 @@ pub record Enters (program : List ℕ) (c : Core) (x : Entry) : Type 0 where
   pub stops : enteringCause (fetchAt program (c .fetch)) ≢ 0 → (x .state ≡ Completed) × (x .stop ≡ stop (enteringCause (fetchAt program (c .fetch))))
 
 -- the general map shows no name for register 0
-pub zero-named : (g : Ghost) (m : List ℕ) (c : Core) → Accounting g m c → getD (c .names) 0 0 ≡ 0
+pub zero-named : (g : Ghost) (m : List ℕ) (c : View) → Accounting g m c → getD (c .names) 0 0 ≡ 0
 zero-named g m c accounting = ap (λ (l : List ℕ). getD l 0 0) (accounting .shows) ∙ zero-last g m (c .entries) (accounting .namePool .zeroName) (accounting .renamed)
 
 shown-operands : (physical names registers : List ℕ) (r t : ℕ) → GeneralMap physical names registers
@@ -55,7 +55,7 @@ shown-operands physical names registers r t k =
       right = rw (operand-name (getD names t 0) (getD registers t 0)) (ap (operandFor (getD names t 0)) (k .gives t));
     }
 
-module _ (g : Ghost) (m : List ℕ) (c : Core) (accounting : Accounting g m c) (p : List ℕ) (x : Entry) (enters : Enters p c x) (space : length (c .entries) < c .setup .window) where
+module _ (g : Ghost) (m : List ℕ) (c : View) (accounting : Accounting g m c) (p : List ℕ) (x : Entry) (enters : Enters p c x) (space : length (c .entries) < c .setup .window) where
   fields : Named (x .instruction)
   fields = rw (enters .instruction) (fetched-named p (c .fetch))
 

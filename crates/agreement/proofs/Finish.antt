@@ -13,7 +13,7 @@ use Rattle.tables.specs.Entry.{emptyEntry, waitingEntry, completedEntry, stoppe
 use Rattle.tables.specs.declared.State.the-variants.{Issued, Completed}
 use Rattle.tables.specs.declared.Entry.{Entry}
 use Rattle.completing.specs.Complete.{outcomeOf}
-use Rattle.agreement.proofs.Core.{Core, informEntry, placed, release, learn, redirect}
+use Rattle.agreement.proofs.View.{View, informEntry, placed, release, learn, redirect}
 use Rattle.agreement.proofs.Ghost.{Ghost}
 use Rattle.agreement.proofs.Chains.{renamingOf, Renamed, Execution, executionOf, waits, reads, done, stops, Executes}
 use Rattle.agreement.proofs.Contents.{ShownIn, holding, without, stopped, early, HoldsIn}
@@ -28,7 +28,7 @@ use Rattle.agreement.proofs.Learn.{no-register, release-accounted, lear
 use Rattle.agreement.proofs.Complete.{issued-read, complete-executes, complete-value, stop-executes}
 use Rattle.agreement.proofs.Redirect.{redirect-keeps}
 
-module _ (p : List ℕ) (s : State) (c : Core) (invariant : Invariant p s c) (i : ℕ) (inside : i < length (c .entries)) where
+module _ (p : List ℕ) (s : State) (c : View) (invariant : Invariant p s c) (i : ℕ) (inside : i < length (c .entries)) where
   abbrev g : Ghost
   g = invariant .ghost
 
@@ -134,12 +134,12 @@ module _ (p : List ℕ) (s : State) (c : Core) (invariant : Invariant p s c) (i 
           }
 
 -- a released register is the head of the pool
-pub released-head : (c : Core) (j : ℕ) → getD (c .physical) (getD (c .entries) j emptyEntry .name) 0 ≢ 0 → release j c .registerhead ≢ 0
+pub released-head : (c : View) (j : ℕ) → getD (c .physical) (getD (c .entries) j emptyEntry .name) 0 ≢ 0 → release j c .registerhead ≢ 0
 unfolding release
 released-head c j h z = h (sym (put-head (getD (c .physical) (getD (c .entries) j emptyEntry .name) 0) (c .registerhead) h) ∙ z)
 
 -- an entry that is not released is executed as before
-pub released-other : (c : Core) (i j : ℕ) → i ≢ j → executionOf (getD (release j c .entries) i emptyEntry) ≡ executionOf (getD (c .entries) i emptyEntry)
+pub released-other : (c : View) (i j : ℕ) → i ≢ j → executionOf (getD (release j c .entries) i emptyEntry) ≡ executionOf (getD (c .entries) i emptyEntry)
 unfolding release
 released-other c i j h =
     let f : Entry = getD (c .entries) j emptyEntry in
@@ -147,16 +147,16 @@ released-other c i j h =
     ∙ ap (λ (l : List Execution). getD l i (executionOf emptyEntry)) (map-keep executionOf (informEntry (f .name) 0) (set (c .entries) j (waitingEntry f)) (λ y. refl))
     ∙ List·getD-map executionOf (set (c .entries) j (waitingEntry f)) i emptyEntry ∙ ap executionOf (getD-set-other (c .entries) j i (waitingEntry f) emptyEntry h)
 
-pub released-length : (c : Core) (j : ℕ) → length (release j c .entries) ≡ length (c .entries)
+pub released-length : (c : View) (j : ℕ) → length (release j c .entries) ≡ length (c .entries)
 unfolding release
 released-length c j = rw (length-map, length-set)
 
 -- with the register of the entry at j, which holds one
-module _ (p : List ℕ) (s : State) (c : Core) (invariant : Invariant p s c) (i : ℕ) (inside : i < length (c .entries)) (size : ℕ) (sized : length (s .memory) ≡ size)
+module _ (p : List ℕ) (s : State) (c : View) (invariant : Invariant p s c) (i : ℕ) (inside : i < length (c .entries)) (size : ℕ) (sized : length (s .memory) ≡ size)
     (now : getD (c .entries) i emptyEntry .state ≡ Issued) (o : Outcome) (is : outcomeOf size (getD (c .entries) i emptyEntry) ≡ o) (goes : o .stop .cause ≡ 0)
     (written : getD (c .entries) i emptyEntry .destination ≢ 0) (j : ℕ) (other : i ≢ j) (there : j < length (c .entries))
     (completed : getD (c .entries) j emptyEntry .state ≡ Completed) (has : getD (c .physical) (getD (c .entries) j emptyEntry .name) 0 ≢ 0) where
-  abbrev r : Core
+  abbrev r : View
   r = release j c
 
   after : Invariant p s r

@@ -15,13 +15,13 @@ use Rattle.tables.specs.declared.State.{State as Stage}
 use Rattle.tables.specs.declared.State.the-variants.{Waits, Issued, Completed}
 use Rattle.tables.specs.declared.Entry.{Entry}
 use Rattle.ranges.specs.Sizes.{namesOf, setupInRange}
-use Rattle.machine.specs.Range.{entriesInRange, tablesInRange, machineInRange}
+use Rattle.core.specs.Range.{entriesInRange, tablesInRange, machineInRange}
 use Rattle.ranges.specs.Tables.{within, tablesWithin}
 use Rattle.ranges.specs.Entries.{entryInRange, operandInRange, isNone, instructionInRange, causeInRange, storeInRange}
 use Rattle.ranges.specs.declared.Setup.{Setup}
-use Rattle.machine.specs.declared.Machine.{Machine}
+use Rattle.core.specs.declared.Core.{Core}
 use Rattle.ranges.proofs.TableLaws.{every-holds}
-use Rattle.agreement.proofs.Core.{Core, coreOf, operandFor}
+use Rattle.agreement.proofs.View.{View, viewOf, operandFor}
 use Rattle.agreement.proofs.Kept.{Kept}
 use Rattle.agreement.proofs.Views.{seen-length, seen-entry}
 
@@ -41,7 +41,7 @@ pub record EntryInRange (s : Setup) (e : Entry) : Type 0 where
   pub caused : (e .state ≡ Completed → ⊥) → e .stop .cause ≡ 0
   pub ends : e .state ≡ Completed → e .stop .cause ≡ 0 → storeEndsWithin (s .bytes) (e .instruction) (e .first) ≡ true
 
-pub record InRange (c : Core) : Type 0 where
+pub record InRange (c : View) : Type 0 where
   pub setup : setupInRange (c .setup) ≡ true
   pub registerhead : c .registerhead ≤ c .setup .registers
   pub registerlink : (k : ℕ) → getD (c .registerlink) k 0 ≤ c .setup .registers
@@ -105,7 +105,7 @@ entry-in-range s e r =
 within-holds : (limit from count : ℕ) (table : List ℕ) → ((k : ℕ) → getD table k 0 ≤ limit) → within limit from count table ≡ true
 within-holds limit from count table h = every-holds (λ (n : ℕ). leb n limit) 0 count from table (λ i l g. le-leb (getD table i 0) limit (h i))
 
-module _ (m : Machine) (k : Kept m) (r : InRange (coreOf m)) where
+module _ (m : Core) (k : Kept m) (r : InRange (viewOf m)) where
   tables : tablesInRange m ≡ true
   unfolding tablesWithin
   tables =
@@ -120,7 +120,7 @@ module _ (m : Machine) (k : Kept m) (r : InRange (coreOf m)) where
       let l = seen-length m k in
       every-holds (entryInRange (m .setup)) emptyEntry (m .count) 0 (m .entries) (λ i a b.
       let h : i < m .count = omega arith in
-      ap (entryInRange (m .setup)) (sym (seen-entry m i h)) ∙ entry-in-range (m .setup) (getD (coreOf m .entries) i emptyEntry) (r .entries i (omega arith)))
+      ap (entryInRange (m .setup)) (sym (seen-entry m i h)) ∙ entry-in-range (m .setup) (getD (viewOf m .entries) i emptyEntry) (r .entries i (omega arith)))
 
   pub in-range : machineInRange m ≡ true
   unfolding machineInRange

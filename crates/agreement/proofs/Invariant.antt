@@ -4,14 +4,14 @@ use mathlib.Core.Path.{_≡_}
 use mathlib.Core.List.{List, [], map}
 use lib.ListN.{length}
 use Rattle.reference.specs.Step.{State}
-use Rattle.agreement.proofs.Core.{Core}
+use Rattle.agreement.proofs.View.{View}
 use Rattle.agreement.proofs.Ghost.{Ghost, Writers, Agree}
 use Rattle.agreement.proofs.Chains.{renamingOf, RenameChain, lastNames, executionOf, ExecutionChain, lastState}
 use Rattle.agreement.proofs.Contents.{Contents, GeneralMap}
 use Rattle.agreement.proofs.Pools.{nameOf, RegisterPool, NamePool, Live}
 
 -- all but what the in-order run says; committed are the names of the committed state
-pub record Accounting (g : Ghost) (committed : List ℕ) (c : Core) : Type 0 where
+pub record Accounting (g : Ghost) (committed : List ℕ) (c : View) : Type 0 where
   pub freeRegisters : List ℕ
   pub freeNames : List ℕ
   pub writers : Writers g committed
@@ -32,7 +32,7 @@ pub record Accounting (g : Ghost) (committed : List ℕ) (c : Core) : Type 0 whe
   pub within : length (c .entries) ≤ c .setup .window
 
 -- s is the in-order state after the accepted commits
-pub record Invariant (program : List ℕ) (s : State) (c : Core) : Type 0 where
+pub record Invariant (program : List ℕ) (s : State) (c : View) : Type 0 where
   pub ghost : Ghost
   pub committed : List ℕ
   pub accounting : Accounting ghost committed c
@@ -42,7 +42,7 @@ pub record Invariant (program : List ℕ) (s : State) (c : Core) : Type 0 where
   pub fetching : c .fetch ≡ lastState program s (map executionOf (c .entries)) .address
 
 -- without entries: what the report looks at, and what a halted machine is
-pub record Emptied (s : State) (c : Core) : Type 0 where
+pub record Emptied (s : State) (c : View) : Type 0 where
   pub ghost : Ghost
   pub committed : List ℕ
   pub accounting : Accounting ghost committed c

@@ -16,7 +16,7 @@ use Rattle.tables.specs.declared.State.the-variants.{Waits}
 use Rattle.tables.specs.declared.Entry.{Entry}
 use Rattle.tables.proofs.TableLaws.{look-within}
 use Rattle.issuing.specs.Issue.{storeBelow}
-use Rattle.agreement.proofs.Core.{Core, operandFor, nameIn, placed}
+use Rattle.agreement.proofs.View.{View, operandFor, nameIn, placed}
 use Rattle.agreement.proofs.Ghost.{Ghost, Agree}
 use Rattle.agreement.proofs.Chains.{renamingOf, Renamed, executionOf, waits, reads, done, stops, Executes}
 use Rattle.agreement.proofs.Contents.{ShownIn, early, HoldsIn, Valued}
@@ -50,7 +50,7 @@ none-stored entries (suc n) h j l =
     neither true b e = impossible (cc)
     neither false b e = (refl, e)
 
-module _ (p : List ℕ) (s : State) (c : Core) (invariant : Invariant p s c) (i : ℕ) (inside : i < length (c .entries)) where
+module _ (p : List ℕ) (s : State) (c : View) (invariant : Invariant p s c) (i : ℕ) (inside : i < length (c .entries)) where
   abbrev e : Entry
   e = getD (c .entries) i emptyEntry
 

@@ -14,22 +14,22 @@ use Rattle.tables.specs.Table.{lookUnder, lookUp, lookValid, storeUnder}
 use Rattle.tables.specs.Entry.{emptyEntry, completedEntry, waitingEntry, sleepEntry, wakeEntry}
 use Rattle.tables.specs.declared.Entry.{Entry}
 use Rattle.tables.proofs.TableLaws.{store-length}
-use Rattle.machine.specs.SetUp.{freshMachine, risingNext, risingLink, ownNumbers}
-use Rattle.machine.specs.Changes.{place, entryAt, shows}
+use Rattle.core.specs.SetUp.{freshMachine, risingNext, risingLink, ownNumbers}
+use Rattle.core.specs.Changes.{place, entryAt, shows}
 use Rattle.decoding.specs.Decode.{enter}
-use Rattle.machine.specs.Drop.{dropYoungest, dropMany, dropTo}
+use Rattle.core.specs.Drop.{dropYoungest, dropMany, dropTo}
 use Rattle.completing.specs.Complete.{learned, refetched, redirected}
 use Rattle.stealing.specs.Steal.{robbed}
 use Rattle.committing.specs.Commit.{haltedBy, moveDown, retired}
-use Rattle.machine.specs.declared.Machine.{Machine}
-use Rattle.machine.proofs.TabulateLaws.{tabulate-length}
-use Rattle.machine.proofs.ChangeLaws.{change-length}
+use Rattle.core.specs.declared.Core.{Core}
+use Rattle.core.proofs.TabulateLaws.{tabulate-length}
+use Rattle.core.proofs.ChangeLaws.{change-length}
 
 -- a valid bit says that the general map shows a register
 abbrev pub Valid : List Bool → List ℕ → Type 0
 Valid mapvalid mapregister = (r : ℕ) → lookValid mapvalid r ≡ not (eqb (lookUp mapregister r) 0)
 
-pub record Kept (m : Machine) : Type 0 where
+pub record Kept (m : Core) : Type 0 where
   pub entries : length (m .entries) ≡ 64
   pub mapname : length (m .mapname) ≡ 32
   pub mapregister : length (m .mapregister) ≡ 32
@@ -76,10 +76,10 @@ choose-length false t d v n h = h
 stored-length : {A : Type 0} (t : List A) (d : ℕ) (v : A) (n : ℕ) → length t ≡ n → length (storeUnder t d v) ≡ n
 stored-length t d v n h = store-length t d v ∙ h
 
-same-lengths : (m : Machine) → Kept m → length (m .mapvalid) ≡ length (m .mapregister)
+same-lengths : (m : Core) → Kept m → length (m .mapvalid) ≡ length (m .mapregister)
 same-lengths m k = k .mapvalid ∙ sym (k .mapregister)
 
-module _ (m : Machine) (k : Kept m) where
+module _ (m : Core) (k : Kept m) where
   pub kept-enter : (e : Entry) → m .count < m .setup .window → Kept (enter e m)
   unfolding enter
   kept-enter e h =
@@ -214,7 +214,7 @@ moved-length count entries s h =
     let d = length-drop count entries in
     omega arith
 
-pub kept-retired : (m : Machine) → Kept m → 0 < m .count → Kept (retired m)
+pub kept-retired : (m : Core) → Kept m → 0 < m .count → Kept (retired m)
 unfolding retired
 kept-retired m k h =
     let e : Entry = entryAt m 0 in
@@ -235,12 +235,12 @@ kept-retired m k h =
       valid = k .valid;
     }
 
-pub kept-drops : (n : ℕ) (m : Machine) → Kept m → Kept (dropMany n m)
+pub kept-drops : (n : ℕ) (m : Core) → Kept m → Kept (dropMany n m)
 unfolding dropMany
 kept-drops zero m k = k
 kept-drops (suc n) m k = kept-drops n (dropYoungest m) (kept-drop m k)
 
-pub kept-redirected : (position next : ℕ) (m : Machine) → Kept m → Kept (redirected position next m)
+pub kept-redirected : (position next : ℕ) (m : Core) → Kept m → Kept (redirected position next m)
 unfolding redirected
 kept-redirected position next m k = at (eqb next (entryAt m position .predicted))
   where

@@ -11,7 +11,7 @@ use Rattle.tables.specs.Entry.{emptyEntry, waitingEntry, completedEntry}
 use Rattle.tables.specs.declared.State.{State as Stage}
 use Rattle.tables.specs.declared.State.the-variants.{Issued, Completed}
 use Rattle.tables.specs.declared.Entry.{Entry}
-use Rattle.agreement.proofs.Core.{Core, informEntry, reshown, release, learn}
+use Rattle.agreement.proofs.View.{View, informEntry, reshown, release, learn}
 use Rattle.agreement.proofs.Ghost.{Ghost, Writers}
 use Rattle.agreement.proofs.Chains.{Renaming, renamingOf}
 use Rattle.agreement.proofs.Contents.{All, ShownIn, Holds, holding, without, stopped, early, HoldsIn, GeneralMap}
@@ -33,7 +33,7 @@ no-register physical t cause n (without a b x) z = absurd (z a)
 no-register physical t cause n (stopped a b x) z = x
 no-register physical t cause n (early a x) z = x
 
-module _ (g : Ghost) (m : List ℕ) (c : Core) (accounting : Accounting g m c) (i : ℕ) (inside : i < length (c .entries)) where
+module _ (g : Ghost) (m : List ℕ) (c : View) (accounting : Accounting g m c) (i : ℕ) (inside : i < length (c .entries)) where
   abbrev e : Entry
   e = getD (c .entries) i emptyEntry
 

@@ -12,18 +12,18 @@ use Rattle.tables.specs.FreeList.{takenHead, takenLink}
 use Rattle.tables.specs.Entry.{emptyEntry, held, completedEntry, waitingEntry, sleepEntry, wakeEntry}
 use Rattle.tables.specs.declared.Entry.{Entry}
 use Rattle.tables.proofs.TableLaws.{look-within, look-zero, store-within, store-zero}
-use Rattle.machine.specs.Changes.{entryAt, changeFirst}
+use Rattle.core.specs.Changes.{entryAt, changeFirst}
 use Rattle.completing.specs.Complete.{learned}
 use Rattle.stealing.specs.Steal.{robbed}
-use Rattle.machine.specs.declared.Machine.{Machine}
-use Rattle.agreement.proofs.Core.{Core, coreOf, informEntry, putHead, putLink, reshown, release, learn}
+use Rattle.core.specs.declared.Core.{Core}
+use Rattle.agreement.proofs.View.{View, viewOf, informEntry, putHead, putLink, reshown, release, learn}
 use Rattle.agreement.proofs.Stores.{wake-entry, sleep-entry, first-changed, map-alike}
 use Rattle.agreement.proofs.RegisterPools.{put-head, put-link}
 use Rattle.agreement.proofs.Kept.{Kept}
 use Rattle.agreement.proofs.Views.{seen-entry}
 
 -- another pool of registers
-abbrev pub pooled : ℕ → List ℕ → Core → Core
+abbrev pub pooled : ℕ → List ℕ → View → View
 pooled head link c =
     record {
       setup = c .setup;
@@ -60,7 +60,7 @@ shown names registers d n register h =
     ap (λ (x : ℕ). choose (eqb x n) (storeUnder registers d register) registers) (sym (look-within names d h))
     ∙ ap (λ (x : List ℕ). choose (eqb (getD names d 0) n) x registers) (sym (store-within registers d register h))
 
-pub view-robbed : (v : ℕ) (m : Machine) → v < m .count → Named (entryAt m v) → coreOf (robbed v m) ≡ pooled (m .registerhead) (m .registerlink) (release v (coreOf m))
+pub view-robbed : (v : ℕ) (m : Core) → v < m .count → Named (entryAt m v) → viewOf (robbed v m) ≡ pooled (m .registerhead) (m .registerlink) (release v (viewOf m))
 unfolding robbed release
 view-robbed v m h n =
     let e : Entry = entryAt m v in
@@ -82,8 +82,8 @@ view-robbed v m h n =
     })
 
 -- whatever the pool was, before and after
-pub view-learned : (i register result : ℕ) (link : List ℕ) (m : Machine) → i < m .count → Named (entryAt m i) → (register ≡ 0 → ⊥)
-    → coreOf (learned i register result m) ≡ pooled (takenHead (m .registerlink) (m .registerhead)) (takenLink (m .registerlink) (m .registerhead)) (learn i result (pooled register link (coreOf m)))
+pub view-learned : (i register result : ℕ) (link : List ℕ) (m : Core) → i < m .count → Named (entryAt m i) → (register ≡ 0 → ⊥)
+    → viewOf (learned i register result m) ≡ pooled (takenHead (m .registerlink) (m .registerhead)) (takenLink (m .registerlink) (m .registerhead)) (learn i result (pooled register link (viewOf m)))
 unfolding learned learn
 view-learned i register result link m h n r =
     let e : Entry = entryAt m i in
@@ -104,17 +104,17 @@ view-learned i register result link m h n r =
       halt = m .halt;
     })
 
-taken-pool : (i result : ℕ) (c : Core) → pooled (getD (c .registerlink) (c .registerhead) 0) (set (c .registerlink) (c .registerhead) 0) (learn i result c) ≡ learn i result c
+taken-pool : (i result : ℕ) (c : View) → pooled (getD (c .registerlink) (c .registerhead) 0) (set (c .registerlink) (c .registerhead) 0) (learn i result c) ≡ learn i result c
 unfolding learn
 taken-pool i result c = refl
 
 -- a free register
-pub view-taken : (i result : ℕ) (m : Machine) → i < m .count → Named (entryAt m i) → (m .registerhead ≡ 0 → ⊥) → coreOf (learned i (m .registerhead) result m) ≡ learn i result (coreOf m)
+pub view-taken : (i result : ℕ) (m : Core) → i < m .count → Named (entryAt m i) → (m .registerhead ≡ 0 → ⊥) → viewOf (learned i (m .registerhead) result m) ≡ learn i result (viewOf m)
 view-taken i result m h n r =
     view-learned i (m .registerhead) result (m .registerlink) m h n r
-    ∙ ap (λ (x : ℕ). pooled x (takenLink (m .registerlink) (m .registerhead)) (learn i result (coreOf m))) (sym (look-within (m .registerlink) (m .registerhead) r))
-    ∙ ap (λ (x : List ℕ). pooled (getD (m .registerlink) (m .registerhead) 0) x (learn i result (coreOf m))) (sym (store-within (m .registerlink) (m .registerhead) 0 r))
-    ∙ taken-pool i result (coreOf m)
+    ∙ ap (λ (x : ℕ). pooled x (takenLink (m .registerlink) (m .registerhead)) (learn i result (viewOf m))) (sym (look-within (m .registerlink) (m .registerhead) r))
+    ∙ ap (λ (x : List ℕ). pooled (getD (m .registerlink) (m .registerhead) 0) x (learn i result (viewOf m))) (sym (store-within (m .registerlink) (m .registerhead) 0 r))
+    ∙ taken-pool i result (viewOf m)
 
 -- the other entries of a robbed machine
 pub changed-at : (f : Entry → Entry) (count : ℕ) (entries : List Entry) (i : ℕ) → i < count → i < length entries → getD (changeFirst count f entries) i emptyEntry ≡ f (getD entries i emptyEntry)
@@ -124,7 +124,7 @@ changed-at f (suc count) [] i h l = absurd (omega arith)
 changed-at f (suc count) (x ∷ entries) zero h l = refl
 changed-at f (suc count) (x ∷ entries) (suc i) h l = changed-at f count entries i (omega arith) (omega arith)
 
-pub robbed-entry : (v i : ℕ) (m : Machine) → Kept m → i < m .count → (i ≡ v → ⊥) → entryAt (robbed v m) i ≡ sleepEntry (entryAt m v .name) (entryAt m i)
+pub robbed-entry : (v i : ℕ) (m : Core) → Kept m → i < m .count → (i ≡ v → ⊥) → entryAt (robbed v m) i ≡ sleepEntry (entryAt m v .name) (entryAt m i)
 unfolding robbed
 robbed-entry v i m k h d =
     let c = k .count in
@@ -134,11 +134,11 @@ robbed-entry v i m k h d =
     changed-at (sleepEntry (entryAt m v .name)) (m .count) (set (m .entries) v (waitingEntry (entryAt m v))) i h (omega arith)
     ∙ ap (sleepEntry (entryAt m v .name)) (getD-set-other (m .entries) v i (waitingEntry (entryAt m v)) emptyEntry d)
 
-robbed-named : (v i : ℕ) (m : Machine) → Kept m → i < m .count → (i ≡ v → ⊥) → Named (entryAt m i) → Named (entryAt (robbed v m) i)
+robbed-named : (v i : ℕ) (m : Core) → Kept m → i < m .count → (i ≡ v → ⊥) → Named (entryAt m i) → Named (entryAt (robbed v m) i)
 robbed-named v i m k h d n = subst Named (sym (robbed-entry v i m k h d)) (record { destination = n .destination; name = n .name })
 
 -- a theft
-module _ (v i result : ℕ) (m : Machine) (k : Kept m) (there : i < m .count) (victim : v < m .count) (other : i ≡ v → ⊥) (named : Named (entryAt m i)) (robs : Named (entryAt m v)) where
+module _ (v i result : ℕ) (m : Core) (k : Kept m) (there : i < m .count) (victim : v < m .count) (other : i ≡ v → ⊥) (named : Named (entryAt m i)) (robs : Named (entryAt m v)) where
   abbrev register : ℕ
   register = held (m .physical) (entryAt m v)
 
@@ -146,7 +146,7 @@ module _ (v i result : ℕ) (m : Machine) (k : Kept m) (there : i < m .count) (v
     kept-link : set (m .registerlink) register 0 ≡ m .registerlink
     kept-link = ap (set (m .registerlink) register) (sym outside) ∙ set-getD (m .registerlink) register 0
 
-    through : pooled register (m .registerlink) (release v (coreOf m)) ≡ release v (coreOf m)
+    through : pooled register (m .registerlink) (release v (viewOf m)) ≡ release v (viewOf m)
     unfolding release
     through =
         let q : getD (take (m .count) (m .entries)) v emptyEntry ≡ entryAt m v = seen-entry m v victim in
@@ -154,7 +154,7 @@ module _ (v i result : ℕ) (m : Machine) (k : Kept m) (there : i < m .count) (v
         λ j. pooled
         ((sym (put-head register (m .registerhead) some) ∙ ap (λ (x : ℕ). putHead x (m .registerhead)) held-there) j)
         ((sym kept-link ∙ ap (set (m .registerlink) register) (sym empty) ∙ sym (put-link register (m .registerhead) (m .registerlink) some) ∙ ap (λ (x : ℕ). putLink x (m .registerhead) (m .registerlink)) held-there) j)
-        (release v (coreOf m))
+        (release v (viewOf m))
 
     taken-head : takenHead (m .registerlink) (m .registerhead) ≡ getD (m .registerlink) register 0
     taken-head = sym (look-zero (m .registerlink) (m .registerhead) empty) ∙ sym outside
@@ -162,12 +162,12 @@ module _ (v i result : ℕ) (m : Machine) (k : Kept m) (there : i < m .count) (v
     taken-link : takenLink (m .registerlink) (m .registerhead) ≡ set (m .registerlink) register 0
     taken-link = sym (store-zero (m .registerlink) (m .registerhead) 0 empty) ∙ sym kept-link
 
-    pub view-stolen : coreOf (learned i register result (robbed v m)) ≡ learn i result (release v (coreOf m))
+    pub view-stolen : viewOf (learned i register result (robbed v m)) ≡ learn i result (release v (viewOf m))
     unfolding robbed
     view-stolen =
         view-learned i register result (m .registerlink) (robbed v m) there (robbed-named v i m k there other named) some
-        ∙ ap (λ (c : Core). pooled (takenHead (m .registerlink) (m .registerhead)) (takenLink (m .registerlink) (m .registerhead)) (learn i result (pooled register (m .registerlink) c))) (view-robbed v m victim robs)
-        ∙ ap (λ (x : ℕ). pooled x (takenLink (m .registerlink) (m .registerhead)) (learn i result (pooled register (m .registerlink) (release v (coreOf m))))) taken-head
-        ∙ ap (λ (x : List ℕ). pooled (getD (m .registerlink) register 0) x (learn i result (pooled register (m .registerlink) (release v (coreOf m))))) taken-link
-        ∙ taken-pool i result (pooled register (m .registerlink) (release v (coreOf m)))
+        ∙ ap (λ (c : View). pooled (takenHead (m .registerlink) (m .registerhead)) (takenLink (m .registerlink) (m .registerhead)) (learn i result (pooled register (m .registerlink) c))) (view-robbed v m victim robs)
+        ∙ ap (λ (x : ℕ). pooled x (takenLink (m .registerlink) (m .registerhead)) (learn i result (pooled register (m .registerlink) (release v (viewOf m))))) taken-head
+        ∙ ap (λ (x : List ℕ). pooled (getD (m .registerlink) register 0) x (learn i result (pooled register (m .registerlink) (release v (viewOf m))))) taken-link
+        ∙ taken-pool i result (pooled register (m .registerlink) (release v (viewOf m)))
         ∙ ap (learn i result) through

@@ -1,5 +1,5 @@
 -- The proof of demand 3.
-pub mod Core
+pub mod View
 -- the invariant
 pub mod Ghost
 pub mod Chains

@@ -13,7 +13,7 @@ use Rattle.tables.specs.Entry.{emptyEntry}
 use Rattle.tables.specs.declared.Operand.{Operand}
 use Rattle.tables.specs.declared.State.the-variants.{Completed}
 use Rattle.tables.specs.declared.Entry.{Entry}
-use Rattle.agreement.proofs.Core.{Core, operandFor, nameIn}
+use Rattle.agreement.proofs.View.{View, operandFor, nameIn}
 use Rattle.agreement.proofs.Chains.{renamingOf, Renamed, lastNames}
 use Rattle.agreement.proofs.Contents.{ShownIn, holding, without, stopped, early, HoldsIn}
 use Rattle.agreement.proofs.Pools.{nameOf, registerOf}
@@ -47,14 +47,14 @@ holder-completed physical e (stopped a b x) z = a
 holder-completed physical e (early a x) z = absurd (z x)
 
 -- an entry younger than position i that holds a register
-pub record Holder (c : Core) (i : ℕ) : Type 0 where
+pub record Holder (c : View) (i : ℕ) : Type 0 where
   pub position : ℕ
   pub younger : i < position
   pub within : position < length (c .entries)
   pub completed : getD (c .entries) position emptyEntry .state ≡ Completed
   pub has : getD (c .physical) (getD (c .entries) position emptyEntry .name) 0 ≢ 0
 
-module _ (p : List ℕ) (s : State) (c : Core) (invariant : Invariant p s c) where
+module _ (p : List ℕ) (s : State) (c : View) (invariant : Invariant p s c) where
   -- an empty window is not full
   pub room-when-empty : length (c .entries) ≡ 0 → length (c .entries) < c .setup .window
   room-when-empty e = omega (arith, invariant .accounting .some)

@@ -8,7 +8,7 @@ use native.Mathlib.Decide.{decLe}
 use lib.ListN.{length, getD, set, length-set, length-append}
 use lib.Seq.{getD-set-other}
 use Rattle.tables.specs.FreeList.{occurrences}
-use Rattle.agreement.proofs.Core.{putHead, putLink}
+use Rattle.agreement.proofs.View.{putHead, putLink}
 use Rattle.agreement.proofs.Pools.{NamePool}
 use Rattle.agreement.proofs.Counting.{same, same-refl, same-not, count-set, count-is, count-last, spells-head, spells-take, spells-free, outside-take, outside-free}
 use Rattle.agreement.proofs.RegisterPools.{putFree}

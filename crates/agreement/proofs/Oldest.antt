@@ -13,15 +13,15 @@ use Rattle.tables.specs.Entry.{emptyEntry, completedEntry, stoppedEntry, predic
 use Rattle.tables.specs.declared.State.{State as Stage}
 use Rattle.tables.specs.declared.State.the-variants.{Waits, Issued, Completed}
 use Rattle.tables.specs.declared.Entry.{Entry}
-use Rattle.machine.specs.Changes.{entryAt, place}
-use Rattle.machine.specs.Drop.{dropYoungest, dropMany, dropTo}
+use Rattle.core.specs.Changes.{entryAt, place}
+use Rattle.core.specs.Drop.{dropYoungest, dropMany, dropTo}
 use Rattle.decoding.specs.Decode.{enteringCause, startedEntry, endedEntry, enter, decoded}
 use Rattle.issuing.specs.Issue.{issued}
 use Rattle.completing.specs.Complete.{outcomeAt, noneFree, registerFor, suppliedFor, learned, registered, refetched, redirected, completed}
 use Rattle.stealing.specs.Steal.{victimOf, robbed}
-use Rattle.machine.specs.declared.Machine.{Machine}
-use Rattle.machine.proofs.DropLaws.{drop-count}
-use Rattle.machine.proofs.ChangeLaws.{change-length}
+use Rattle.core.specs.declared.Core.{Core}
+use Rattle.core.proofs.DropLaws.{drop-count}
+use Rattle.core.proofs.ChangeLaws.{change-length}
 use Rattle.agreement.proofs.Turns.{At}
 use Rattle.agreement.proofs.Tests.{by-choice}
 use Rattle.agreement.proofs.Views.{drops-count}
@@ -29,17 +29,17 @@ use Rattle.agreement.proofs.Learns.{changed-at}
 use Rattle.agreement.proofs.Steady.{steady-drops}
 
 -- entries older than those dropped stay
-drop-entry : (m : Machine) (j : ℕ) → j < m .count - 1 → entryAt (dropYoungest m) j ≡ entryAt m j
+drop-entry : (m : Core) (j : ℕ) → j < m .count - 1 → entryAt (dropYoungest m) j ≡ entryAt m j
 unfolding dropYoungest
 drop-entry m j h = getD-set-other (m .entries) (m .count - 1) j emptyEntry emptyEntry (λ e. omega arith)
 
-drops-entry : (n : ℕ) (m : Machine) (j : ℕ) → j + n < m .count → entryAt (dropMany n m) j ≡ entryAt m j
+drops-entry : (n : ℕ) (m : Core) (j : ℕ) → j + n < m .count → entryAt (dropMany n m) j ≡ entryAt m j
 unfolding dropMany
 drops-entry zero m j h = refl
 drops-entry (suc n) m j h = let c = drop-count m in drops-entry n (dropYoungest m) j (omega arith) ∙ drop-entry m j (omega arith)
 
 -- the oldest entry after each part of a call
-module _ (m : Machine) (room : 0 < length (m .entries)) where
+module _ (m : Core) (room : 0 < length (m .entries)) where
   placed-at : (e : Entry) (s : Stage) → m .halt .cause ≡ 0 → 0 < m .count → e .state ≡ s → At (place 0 e m) 0 s
   placed-at e s r h q = record { runs = r; there = h; state = ap (λ (x : Entry). x .state) (getD-set-same (m .entries) 0 e emptyEntry room) ∙ q }
 
@@ -68,23 +68,23 @@ module _ (m : Machine) (room : 0 < length (m .entries)) where
         state = ap (λ (x : Entry). x .state) (getD-set-same (m .entries) 0 (predictedEntry next (entryAt m 0)) emptyEntry room) ∙ a .state;
       }
 
-drop-length : (m : Machine) → length (dropYoungest m .entries) ≡ length (m .entries)
+drop-length : (m : Core) → length (dropYoungest m .entries) ≡ length (m .entries)
 unfolding dropYoungest
 drop-length m = length-set (m .entries) (m .count - 1) emptyEntry
 
-drops-length : (n : ℕ) (m : Machine) → length (dropMany n m .entries) ≡ length (m .entries)
+drops-length : (n : ℕ) (m : Core) → length (dropMany n m .entries) ≡ length (m .entries)
 unfolding dropMany
 drops-length zero m = refl
 drops-length (suc n) m = drops-length n (dropYoungest m) ∙ drop-length m
 
-redirected-at : (next : ℕ) (m : Machine) → 0 < length (m .entries) → At m 0 Completed → At (redirected 0 next m) 0 Completed
+redirected-at : (next : ℕ) (m : Core) → 0 < length (m .entries) → At m 0 Completed → At (redirected 0 next m) 0 Completed
 unfolding redirected
 redirected-at next m room a =
     let n : ℕ = m .count - 1 in
     let h = a .there in
     let c = drops-count n m in
     let l = drops-length n m in
-    by-choice (λ (x : Machine). At x 0 Completed) (eqb next (entryAt m 0 .predicted)) m (refetched 0 next (dropTo 1 m)) (λ e. a) (λ e.
+    by-choice (λ (x : Core). At x 0 Completed) (eqb next (entryAt m 0 .predicted)) m (refetched 0 next (dropTo 1 m)) (λ e. a) (λ e.
     refetched-at (dropTo 1 m) (omega arith) next (record {
       runs = ap (λ (x : Stop). x .cause) (steady-drops n m .halt) ∙ a .runs;
       there = omega arith;
@@ -92,12 +92,12 @@ redirected-at next m room a =
     }))
 
 -- a machine that runs, has an entry and room for it
-record Runs (m : Machine) : Type 0 where
+record Runs (m : Core) : Type 0 where
   runs : m .halt .cause ≡ 0
   there : 0 < m .count
   room : 0 < length (m .entries)
 
-robbed-runs : (v : ℕ) (m : Machine) → Runs m → Runs (robbed v m)
+robbed-runs : (v : ℕ) (m : Core) → Runs m → Runs (robbed v m)
 unfolding robbed
 robbed-runs v m r =
     record {
@@ -106,7 +106,7 @@ robbed-runs v m r =
       room = let l = change-length (sleepEntry (entryAt m v .name)) (m .count) (set (m .entries) v (waitingEntry (entryAt m v))) in let s = length-set (m .entries) v (waitingEntry (entryAt m v)) in let h = r .room in omega arith;
     }
 
-learned-runs : (i register result : ℕ) (m : Machine) → Runs m → Runs (learned i register result m)
+learned-runs : (i register result : ℕ) (m : Core) → Runs m → Runs (learned i register result m)
 unfolding learned
 learned-runs i register result m r =
     let e : Entry = completedEntry result (entryAt m i) in
@@ -117,11 +117,11 @@ learned-runs i register result m r =
     }
 
 -- the entry is completed, whatever its register
-record Registered (m : Machine) : Type 0 where
+record Registered (m : Core) : Type 0 where
   at : At m 0 Completed
   room : 0 < length (m .entries)
 
-registered-at : (result : ℕ) (m : Machine) → Runs m → Registered (registered 0 result m)
+registered-at : (result : ℕ) (m : Core) → Runs m → Registered (registered 0 result m)
 registered-at result m r =
     let e : Entry = completedEntry 0 (entryAt m 0) in
     let supplied : Runs (suppliedFor m 0) = by-choice Runs (noneFree m) (robbed (victimOf m 0) m) m (λ x. robbed-runs (victimOf m 0) m r) (λ x. r) in
@@ -129,20 +129,20 @@ registered-at result m r =
     (λ x. record { at = placed-at m (r .room) e Completed (r .runs) (r .there) refl; room = let l = length-set (m .entries) 0 e in let h = r .room in omega arith })
     (λ x. record { at = learned-at (suppliedFor m 0) (supplied .room) (registerFor m 0) result (supplied .runs) (supplied .there); room = learned-runs 0 (registerFor m 0) result (suppliedFor m 0) supplied .room })
 
-pub completed-at : (m : Machine) → 0 < length (m .entries) → At m 0 Issued → At (completed 0 m) 0 Completed
+pub completed-at : (m : Core) → 0 < length (m .entries) → At m 0 Issued → At (completed 0 m) 0 Completed
 completed-at m room a =
     let o : Outcome = outcomeAt m 0 in
     let e : Entry = stoppedEntry (o .stop) (entryAt m 0) in
     let r : Registered (registered 0 (o .result) m) = registered-at (o .result) m (record { runs = a .runs; there = a .there; room = room }) in
-    by-choice (λ (x : Machine). At x 0 Completed) (eqb (o .stop .cause) 0) (redirected 0 (o .next) (registered 0 (o .result) m)) (place 0 e m)
+    by-choice (λ (x : Core). At x 0 Completed) (eqb (o .stop .cause) 0) (redirected 0 (o .next) (registered 0 (o .result) m)) (place 0 e m)
     (λ x. redirected-at (o .next) (registered 0 (o .result) m) (r .room) (r .at)) (λ x. placed-at m room e Completed (a .runs) (a .there) refl)
 
 -- the first entry of an empty window
-pub data Entered (m : Machine) : Type 0 where
+pub data Entered (m : Core) : Type 0 where
   waiting : At m 0 Waits → Entered m
   ended : At m 0 Completed → Entered m
 
-entered-at : (e : Entry) (m : Machine) (s : Stage) → 0 < length (m .entries) → m .halt .cause ≡ 0 → m .count ≡ 0 → e .state ≡ s → At (enter e m) 0 s
+entered-at : (e : Entry) (m : Core) (s : Stage) → 0 < length (m .entries) → m .halt .cause ≡ 0 → m .count ≡ 0 → e .state ≡ s → At (enter e m) 0 s
 unfolding enter
 entered-at e m s room r z q =
     record {
@@ -151,7 +151,7 @@ entered-at e m s room r z q =
       state = ap (λ (x : Entry). x .state) (ap (λ (n : ℕ). getD (set (m .entries) n e) 0 emptyEntry) z ∙ getD-set-same (m .entries) 0 e emptyEntry room) ∙ q;
     }
 
-pub decoded-at : (program : List ℕ) (guess : ℕ) (m : Machine) → 0 < length (m .entries) → m .halt .cause ≡ 0 → m .count ≡ 0 → Entered (decoded program guess m)
+pub decoded-at : (program : List ℕ) (guess : ℕ) (m : Core) → 0 < length (m .entries) → m .halt .cause ≡ 0 → m .count ≡ 0 → Entered (decoded program guess m)
 decoded-at program guess m room r z =
     let f : FetchNumbers = fetchAt program (m .fetch) in
     let started : Entry = startedEntry m (f .fields) guess in

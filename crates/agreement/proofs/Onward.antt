@@ -16,14 +16,14 @@ use Rattle.tables.specs.Operand.{isReady}
 use Rattle.tables.specs.declared.State.{State as Stage}
 use Rattle.tables.specs.declared.State.the-variants.{Waits, Issued, Completed}
 use Rattle.tables.specs.declared.Entry.{Entry}
-use Rattle.machine.specs.Call.{lentRefusal}
-use Rattle.machine.specs.Changes.{entryAt}
+use Rattle.core.specs.Call.{lentRefusal}
+use Rattle.core.specs.Changes.{entryAt}
 use Rattle.decoding.specs.Decode.{decoded}
 use Rattle.issuing.specs.Issue.{storeBelow, issued}
 use Rattle.completing.specs.Complete.{completed}
-use Rattle.machine.specs.declared.Machine.{Machine}
+use Rattle.core.specs.declared.Core.{Core}
 use Rattle.agreement.specs.Lists.{Call, decode, issue, complete, commit, own, World, Made, madeBy, callOf, make, isCommit, acceptedCommit, neededBy, needed, CommitsWithin}
-use Rattle.agreement.proofs.Core.{Core, coreOf}
+use Rattle.agreement.proofs.View.{View, viewOf}
 use Rattle.agreement.proofs.Invariant.{Invariant}
 use Rattle.agreement.proofs.Tests.{equal, apart, eq?}
 use Rattle.agreement.proofs.Liveness.{Holder, room-when-empty, left-ready, right-ready, holder}
@@ -37,25 +37,25 @@ use Rattle.agreement.proofs.Oldest.{issued-at, completed-at, Entered, w
 
 -- one call more
 module _ (program : List ℕ) (w : World) where
-  within-at : (n : ℕ) (call : Call) → callOf program (w .memory) call (w .machine) .number ≡ 0
-      → (isCommit call ≡ false → CommitsWithin n program (callOf program (w .memory) call (w .machine) .world))
-      → needed (w .machine) ≡ call → CommitsWithin (suc n) program w
+  within-at : (n : ℕ) (call : Call) → callOf program (w .memory) call (w .core) .number ≡ 0
+      → (isCommit call ≡ false → CommitsWithin n program (callOf program (w .memory) call (w .core) .world))
+      → needed (w .core) ≡ call → CommitsWithin (suc n) program w
   unfolding CommitsWithin make
   within-at n call a f q =
-      subst (λ (x : Call). (callOf program (w .memory) x (w .machine) .number ≡ 0) × ((isCommit x ≡ false) → CommitsWithin n program (callOf program (w .memory) x (w .machine) .world))) (sym q) (a, f)
+      subst (λ (x : Call). (callOf program (w .memory) x (w .core) .number ≡ 0) × ((isCommit x ≡ false) → CommitsWithin n program (callOf program (w .memory) x (w .core) .world))) (sym q) (a, f)
 
   -- by what the call leaves
-  within-made : (n : ℕ) (call : Call) (m : Machine) → callOf program (w .memory) call (w .machine) ≡ madeBy m (w .memory) 0 → needed (w .machine) ≡ call
-      → CommitsWithin n program (record { machine = m; memory = w .memory }) → CommitsWithin (suc n) program w
+  within-made : (n : ℕ) (call : Call) (m : Core) → callOf program (w .memory) call (w .core) ≡ madeBy m (w .memory) 0 → needed (w .core) ≡ call
+      → CommitsWithin n program (record { core = m; memory = w .memory }) → CommitsWithin (suc n) program w
   within-made n call m e q f =
       within-at n call (ap (λ (x : Made). x .number) e) (λ z. subst (λ (x : Made). CommitsWithin n program (x .world)) (sym e) f) q
 
-pub needed-some : (m : Machine) (s : Stage) → At m 0 s → needed m ≡ neededBy s
+pub needed-some : (m : Core) (s : Stage) → At m 0 s → needed m ≡ neededBy s
 needed-some m s a =
     let h = a .there in
     ap (λ (b : Bool). choose b (decode (onward (m .fetch))) (neededBy (entryAt m 0 .state))) (ne-eqb (m .count) 0 (λ z. omega arith)) ∙ ap neededBy (a .state)
 
-needed-none : (m : Machine) → m .count ≡ 0 → needed m ≡ decode (onward (m .fetch))
+needed-none : (m : Core) → m .count ≡ 0 → needed m ≡ decode (onward (m .fetch))
 needed-none m z = ap (λ (b : Bool). choose b (decode (onward (m .fetch))) (neededBy (entryAt m 0 .state))) (eq-eqb (m .count) 0 z)
 
 -- a world that runs
@@ -63,10 +63,10 @@ pub record Lively (program : List ℕ) (start : State) (n : ℕ) (w : World) : T
   pub reached : Reached program start n w
   pub state : State
   pub memory : w .memory ≡ state .memory
-  pub invariant : Invariant program state (coreOf (w .machine))
-  pub lent : lentRefusal (w .machine) program (w .memory) ≡ 0
+  pub invariant : Invariant program state (viewOf (w .core))
+  pub lent : lentRefusal (w .core) program (w .memory) ≡ 0
 
-pub lively : (program : List ℕ) (start : State) (n : ℕ) (w : World) → Reached program start n w → w .machine .halt .cause ≡ 0 → Lively program start n w
+pub lively : (program : List ℕ) (start : State) (n : ℕ) (w : World) → Reached program start n w → w .core .halt .cause ≡ 0 → Lively program start n w
 lively program start n w r z = at (r .safe)
   where
     at : Safe program start n w → Lively program start n w
@@ -74,11 +74,11 @@ lively program start n w r z = at (r .safe)
     at (dead s k l run halt memory zeros why empty) = absurd (halt z)
 
 module _ (program : List ℕ) (start : State) (n : ℕ) (w : World) (l : Lively program start n w) where
-  abbrev m : Machine
-  m = w .machine
+  abbrev m : Core
+  m = w .core
 
-  abbrev c : Core
-  c = coreOf m
+  abbrev c : View
+  c = viewOf m
 
   room : 0 < length (m .entries)
   room = let k = l .reached .fit .kept .entries in omega arith
@@ -135,56 +135,56 @@ module _ (program : List ℕ) (start : State) (n : ℕ) (w : World) (l : Lively 
 
 -- the world after an accepted call runs
 module _ (program : List ℕ) (start : State) where
-  after : (n : ℕ) (w : World) (call : Call) (m : Machine) → Lively program start n w → callOf program (w .memory) call (w .machine) ≡ madeBy m (w .memory) 0 → m .halt .cause ≡ 0
-      → (k : ℕ) × Lively program start k (record { machine = m; memory = w .memory })
+  after : (n : ℕ) (w : World) (call : Call) (m : Core) → Lively program start n w → callOf program (w .memory) call (w .core) ≡ madeBy m (w .memory) 0 → m .halt .cause ≡ 0
+      → (k : ℕ) × Lively program start k (record { core = m; memory = w .memory })
   unfolding make
   after n w call m l e z =
       let r = make-reached program start n (own call) w (l .reached) in
-      let k : ℕ = n + acceptedCommit (own call) (callOf program (w .memory) call (w .machine) .number) in
-      (k, lively program start k (record { machine = m; memory = w .memory }) (subst (λ (x : Made). Reached program start k (x .world)) e r) z)
+      let k : ℕ = n + acceptedCommit (own call) (callOf program (w .memory) call (w .core) .number) in
+      (k, lively program start k (record { core = m; memory = w .memory }) (subst (λ (x : Made). Reached program start k (x .world)) e r) z)
 
-  issued-within : (n k : ℕ) (w : World) → Lively program start n w → At (w .machine) 0 Issued → CommitsWithin (suc (suc k)) program w
+  issued-within : (n k : ℕ) (w : World) → Lively program start n w → At (w .core) 0 Issued → CommitsWithin (suc (suc k)) program w
   issued-within n k w l a =
-      let m : Machine = completed 0 (w .machine) in
-      let b : At m 0 Completed = completed-at (w .machine) (room program start n w l) a in
+      let m : Core = completed 0 (w .core) in
+      let b : At m 0 Completed = completed-at (w .core) (room program start n w l) a in
       let e = complete-made program start n w l a in
       let next = after n w (complete 0) m l e (b .runs) in
-      within-made program w (suc k) (complete 0) m e (needed-some (w .machine) Issued a) (commit-within program start (next .0) (record { machine = m; memory = w .memory }) (next .1) k b)
+      within-made program w (suc k) (complete 0) m e (needed-some (w .core) Issued a) (commit-within program start (next .0) (record { core = m; memory = w .memory }) (next .1) k b)
 
-  waiting-within : (n k : ℕ) (w : World) → Lively program start n w → At (w .machine) 0 Waits → CommitsWithin (suc (suc (suc k))) program w
+  waiting-within : (n k : ℕ) (w : World) → Lively program start n w → At (w .core) 0 Waits → CommitsWithin (suc (suc (suc k))) program w
   waiting-within n k w l a =
-      let m : Machine = issued (w .memory) 0 (w .machine) in
-      let b : At m 0 Issued = issued-at (w .machine) (room program start n w l) (w .memory) a in
+      let m : Core = issued (w .memory) 0 (w .core) in
+      let b : At m 0 Issued = issued-at (w .core) (room program start n w l) (w .memory) a in
       let e = issue-made program start n w l a in
       let next = after n w (issue 0) m l e (b .runs) in
-      within-made program w (suc (suc k)) (issue 0) m e (needed-some (w .machine) Waits a) (issued-within (next .0) k (record { machine = m; memory = w .memory }) (next .1) b)
+      within-made program w (suc (suc k)) (issue 0) m e (needed-some (w .core) Waits a) (issued-within (next .0) k (record { core = m; memory = w .memory }) (next .1) b)
 
-  entered-within : (n k : ℕ) (w : World) → Lively program start n w → Entered (w .machine) → CommitsWithin (suc (suc (suc k))) program w
+  entered-within : (n k : ℕ) (w : World) → Lively program start n w → Entered (w .core) → CommitsWithin (suc (suc (suc k))) program w
   entered-within n k w l (waiting a) = waiting-within n k w l a
   entered-within n k w l (ended a) = commit-within program start n w l (suc (suc k)) a
 
-  empty-within : (n k : ℕ) (w : World) → Lively program start n w → w .machine .halt .cause ≡ 0 → w .machine .count ≡ 0 → CommitsWithin (suc (suc (suc (suc k)))) program w
+  empty-within : (n k : ℕ) (w : World) → Lively program start n w → w .core .halt .cause ≡ 0 → w .core .count ≡ 0 → CommitsWithin (suc (suc (suc (suc k)))) program w
   empty-within n k w l r z =
-      let guess : ℕ = onward (w .machine .fetch) in
-      let m : Machine = decoded program guess (w .machine) in
-      let b : Entered m = decoded-at program guess (w .machine) (room program start n w l) r z in
+      let guess : ℕ = onward (w .core .fetch) in
+      let m : Core = decoded program guess (w .core) in
+      let b : Entered m = decoded-at program guess (w .core) (room program start n w l) r z in
       let e = decode-made program start n w l guess r z in
       let next = after n w (decode guess) m l e (entered-runs m b) in
-      within-made program w (suc (suc (suc k))) (decode guess) m e (needed-none (w .machine) z) (entered-within (next .0) k (record { machine = m; memory = w .memory }) (next .1) b)
+      within-made program w (suc (suc (suc k))) (decode guess) m e (needed-none (w .core) z) (entered-within (next .0) k (record { core = m; memory = w .memory }) (next .1) b)
     where
-      entered-runs : (m : Machine) → Entered m → m .halt .cause ≡ 0
+      entered-runs : (m : Core) → Entered m → m .halt .cause ≡ 0
       entered-runs m (waiting a) = a .runs
       entered-runs m (ended a) = a .runs
 
-  some-within : (n : ℕ) (w : World) (s : Stage) → Lively program start n w → At (w .machine) 0 s → CommitsWithin 4 program w
+  some-within : (n : ℕ) (w : World) (s : Stage) → Lively program start n w → At (w .core) 0 s → CommitsWithin 4 program w
   some-within n w Waits l a = waiting-within n 1 w l a
   some-within n w Issued l a = issued-within n 2 w l a
   some-within n w Completed l a = commit-within program start n w l 3 a
 
-  pub commits-within : (n : ℕ) (w : World) → Reached program start n w → w .machine .halt .cause ≡ 0 → CommitsWithin 4 program w
+  pub commits-within : (n : ℕ) (w : World) → Reached program start n w → w .core .halt .cause ≡ 0 → CommitsWithin 4 program w
   commits-within n w r z =
       let l = lively program start n w r z in
-      elim (eq? (w .machine .count) 0) [
+      elim (eq? (w .core .count) 0) [
         | equal e t ↦ empty-within n 0 w l z e
-        | apart e t ↦ some-within n w (entryAt (w .machine) 0 .state) l (record { runs = z; there = omega arith; state = refl })
+        | apart e t ↦ some-within n w (entryAt (w .core) 0 .state) l (record { runs = z; there = omega arith; state = refl })
       ]

@@ -8,7 +8,7 @@ use Rattle.reference.specs.Step.{State}
 use Rattle.execution.specs.declared.Stop.{Stop}
 use Rattle.tables.specs.Entry.{emptyEntry}
 use Rattle.tables.specs.declared.Entry.{Entry}
-use Rattle.agreement.proofs.Core.{Core, placed, steer}
+use Rattle.agreement.proofs.View.{View, placed, steer}
 use Rattle.agreement.proofs.Ghost.{Ghost}
 use Rattle.agreement.proofs.Chains.{Renaming, renamingOf, executionOf, Executes}
 use Rattle.agreement.proofs.Contents.{ShownIn, HoldsIn}
@@ -17,7 +17,7 @@ use Rattle.agreement.proofs.Invariant.{Accounting, Invariant}
 use Rattle.agreement.proofs.Every.{all-set}
 use Rattle.agreement.proofs.Walks.{stateAt, executed-set, state-set}
 
-pub placed-accounted : (g : Ghost) (m : List ℕ) (c : Core) (i : ℕ) (x : Entry) → Accounting g m c → i < length (c .entries) → renamingOf x ≡ renamingOf (getD (c .entries) i emptyEntry)
+pub placed-accounted : (g : Ghost) (m : List ℕ) (c : View) (i : ℕ) (x : Entry) → Accounting g m c → i < length (c .entries) → renamingOf x ≡ renamingOf (getD (c .entries) i emptyEntry)
     → ShownIn (c .physical) x → HoldsIn (c .physical) x → Accounting g m (placed i x c)
 placed-accounted g m c i x accounting inside l sx hx =
     let renamings : map renamingOf (set (c .entries) i x) ≡ map renamingOf (c .entries) = map-set-same renamingOf (c .entries) i x emptyEntry l in
@@ -47,7 +47,7 @@ placed-accounted g m c i x accounting inside l sx hx =
     }
 
 -- with the same prediction, the in-order run goes on as before
-pub placed-keeps : (p : List ℕ) (s : State) (c : Core) (i : ℕ) (x : Entry) (invariant : Invariant p s c) → i < length (c .entries)
+pub placed-keeps : (p : List ℕ) (s : State) (c : View) (i : ℕ) (x : Entry) (invariant : Invariant p s c) → i < length (c .entries)
     → renamingOf x ≡ renamingOf (getD (c .entries) i emptyEntry) → x .predicted ≡ getD (c .entries) i emptyEntry .predicted → ShownIn (c .physical) x → HoldsIn (c .physical) x
     → Executes p (invariant .ghost) (stateAt p s (c .entries) i) (executionOf x) → Invariant p s (placed i x c)
 placed-keeps p s c i x invariant inside l n sx hx o =
@@ -62,7 +62,7 @@ placed-keeps p s c i x invariant inside l n sx hx o =
     }
 
 -- fetch, next address and halt are nobody's business in the tables
-pub steer-accounted : (g : Ghost) (m : List ℕ) (c : Core) (fetch next : ℕ) (halt : Stop) → Accounting g m c → Accounting g m (steer fetch next halt c)
+pub steer-accounted : (g : Ghost) (m : List ℕ) (c : View) (fetch next : ℕ) (halt : Stop) → Accounting g m c → Accounting g m (steer fetch next halt c)
 steer-accounted g m c fetch next halt a =
     record {
       freeRegisters = a .freeRegisters;

@@ -33,7 +33,7 @@ use Rattle.tables.specs.declared.Entry.{Entry}
 use Rattle.ranges.specs.Sizes.{setupInRange}
 use Rattle.ranges.specs.Entries.{operandInRange, isNone}
 use Rattle.decoding.specs.Decode.{enteringCause}
-use Rattle.agreement.proofs.Core.{Core, operandFor, nameIn}
+use Rattle.agreement.proofs.View.{View, operandFor, nameIn}
 use Rattle.agreement.proofs.Ghost.{Ghost}
 use Rattle.agreement.proofs.Chains.{renamingOf, Renamed, lastNames, executionOf, Status, waits, reads, done, stops, Executes}
 use Rattle.agreement.proofs.Contents.{All, ShownIn}
@@ -95,7 +95,7 @@ names-range limit m [] f a r = f r
 names-range limit m (e ∷ es) f a r = names-range limit (set m (e .destination) (e .name)) es (range-set m (e .destination) (e .name) limit (a .0) f) (a .1) r
 
 -- what the accounting says of the tables
-module _ (g : Ghost) (m : List ℕ) (c : Core) (accounting : Accounting g m c) where
+module _ (g : Ghost) (m : List ℕ) (c : View) (accounting : Accounting g m c) where
   abbrev limit : ℕ
   limit = 31 + c .setup .window
 
@@ -247,7 +247,7 @@ module _ (p : List ℕ) (g : Ghost) (s : State) (e : Entry) (bytes : ℕ) (sized
       let m = fetched-missing p (s .address) f in
       missing (ap isNone (executes .instruction ∙ m .fields)) (t .none f .0) (ap (λ (n : ℕ). eqb n 1 || eqb n 4) (t .none f .1) ∙ m .cause)
 
-module _ (p : List ℕ) (s : State) (c : Core) (invariant : Invariant p s c) (sized : length (s .memory) ≡ c .setup .bytes) where
+module _ (p : List ℕ) (s : State) (c : View) (invariant : Invariant p s c) (sized : length (s .memory) ≡ c .setup .bytes) where
   abbrev g : Ghost
   g = invariant .ghost
 
@@ -279,6 +279,6 @@ module _ (p : List ℕ) (s : State) (c : Core) (invariant : Invariant p s c) (si
   pub alive-range : setupInRange (c .setup) ≡ true → c .halt .cause ≤ 7 → InRange c
   alive-range r h = accounted-range g m c (invariant .accounting) r h entry-at
 
-pub emptied-range : (s : State) (c : Core) → Emptied s c → setupInRange (c .setup) ≡ true → c .halt .cause ≤ 7 → InRange c
+pub emptied-range : (s : State) (c : View) → Emptied s c → setupInRange (c .setup) ≡ true → c .halt .cause ≤ 7 → InRange c
 emptied-range s c a r h =
     accounted-range (a .ghost) (a .committed) c (a .accounting) r h (λ i l. absurd (let n : length (c .entries) ≡ 0 = ap length (a .empty) in omega arith))

@@ -10,16 +10,16 @@ use lib.ListN.{length}
 use Rattle.laws.proofs.Bools.{and-left}
 use Rattle.reference.specs.Step.{State}
 use Rattle.execution.specs.declared.Stop.{Stop}
-use Rattle.machine.specs.SetUp.{freshMachine}
+use Rattle.core.specs.SetUp.{freshMachine}
 use Rattle.ranges.specs.Sizes.{setUpRefusal, setupInRange}
-use Rattle.machine.specs.Range.{tablesInRange, entriesInRange, machineInRange}
-use Rattle.machine.specs.Call.{lentRefusal}
-use Rattle.machine.specs.declared.Machine.{Machine}
-use Rattle.machine.proofs.FreshInRange.{fresh-in-range}
+use Rattle.core.specs.Range.{tablesInRange, entriesInRange, machineInRange}
+use Rattle.core.specs.Call.{lentRefusal}
+use Rattle.core.specs.declared.Core.{Core}
+use Rattle.core.proofs.FreshInRange.{fresh-in-range}
 use Rattle.ranges.proofs.SizeLaws.{accepted-sizes}
 use Rattle.agreement.specs.Lists.{Event, World, makeAll, acceptedCommits, started, origin}
 use Rattle.agreement.specs.Unrefused.{Unrefused}
-use Rattle.agreement.proofs.Core.{coreOf}
+use Rattle.agreement.proofs.View.{viewOf}
 use Rattle.agreement.proofs.Start.{start}
 use Rattle.agreement.proofs.Kept.{kept-fresh}
 use Rattle.agreement.proofs.Accepts.{none-lent}
@@ -29,7 +29,7 @@ use Rattle.agreement.proofs.Safe.{Safe, alive, dead, Reached, all-reach
 use Rattle.agreement.proofs.Ranged.{alive-range, emptied-range, step-cause}
 
 -- the machine of an accepted set-up
-setup-of : (m : Machine) → machineInRange m ≡ true → setupInRange (m .setup) ≡ true
+setup-of : (m : Core) → machineInRange m ≡ true → setupInRange (m .setup) ≡ true
 unfolding machineInRange
 setup-of m t =
     let a = setupInRange (m .setup) in
@@ -62,23 +62,23 @@ list-reached window registers program memory accepted events =
     (all-reached program (origin memory) events 0 begin (started-reached window registers program memory accepted))
 
 -- refusal 5 does not apply, to a machine that runs or that halted
-pub reached-range : (program : List ℕ) (begin : State) (n : ℕ) (w : World) → Reached program begin n w → machineInRange (w .machine) ≡ true
+pub reached-range : (program : List ℕ) (begin : State) (n : ℕ) (w : World) → Reached program begin n w → machineInRange (w .core) ≡ true
 reached-range program begin n w r = at (r .safe)
   where
-    at : Safe program begin n w → machineInRange (w .machine) ≡ true
+    at : Safe program begin n w → machineInRange (w .core) ≡ true
     at (alive s run halt memory zeros inv) =
         let f = r .fit in
-        let m : Machine = w .machine in
+        let m : Core = w .core in
         let cause : m .halt .cause ≡ 0 = ap (λ (x : Stop). x .cause) halt in
-        in-range m (f .kept) (alive-range program s (coreOf m) inv (ap length (sym memory) ∙ f .bytes) (f .setup) (omega arith))
+        in-range m (f .kept) (alive-range program s (viewOf m) inv (ap length (sym memory) ∙ f .bytes) (f .setup) (omega arith))
     at (dead s k l run halt memory zeros why empty) =
         let f = r .fit in
-        let m : Machine = w .machine in
-        in-range m (f .kept) (emptied-range s (coreOf m) empty (f .setup) (subst (λ (x : Stop). x .cause ≤ 7) why (step-cause program s)))
+        let m : Core = w .core in
+        in-range m (f .kept) (emptied-range s (viewOf m) empty (f .setup) (subst (λ (x : Stop). x .cause ≤ 7) why (step-cause program s)))
 
 -- nor 6, with the list's own program and data lent
-pub reached-lent : (program : List ℕ) (begin : State) (n : ℕ) (w : World) → Reached program begin n w → lentRefusal (w .machine) program (w .memory) ≡ 0
-reached-lent program begin n w r = none-lent (w .machine) program (w .memory) (reached-range program begin n w r) (r .fit .sized) (r .fit .bytes)
+pub reached-lent : (program : List ℕ) (begin : State) (n : ℕ) (w : World) → Reached program begin n w → lentRefusal (w .core) program (w .memory) ≡ 0
+reached-lent program begin n w r = none-lent (w .core) program (w .memory) (reached-range program begin n w r) (r .fit .sized) (r .fit .bytes)
 
 pub unrefused : Unrefused
 unrefused window registers program memory accepted events =

@@ -10,7 +10,7 @@ use lib.Seq.{getD-set-same, take-suc-set, take-set-lt, take-set-le, length-take-
 use Rattle.reference.specs.Step.{State}
 use Rattle.tables.specs.Entry.{emptyEntry, predictedEntry}
 use Rattle.tables.specs.declared.Entry.{Entry}
-use Rattle.agreement.proofs.Core.{Core, dropsTo, placed, steer, redirect}
+use Rattle.agreement.proofs.View.{View, dropsTo, placed, steer, redirect}
 use Rattle.agreement.proofs.Ghost.{Ghost, Agree}
 use Rattle.agreement.proofs.Chains.{Execution, executionOf, Executes, ExecutionChain, lastState}
 use Rattle.agreement.proofs.Contents.{ShownIn, HoldsIn}
@@ -42,7 +42,7 @@ aimed next e =
     }
 
 -- b is the machine before and c the one after the entry at i was completed and became x, with n for its actual next address
-module _ (p : List ℕ) (g : Ghost) (m : List ℕ) (s : State) (b c : Core) (i n : ℕ) (x : Entry)
+module _ (p : List ℕ) (g : Ghost) (m : List ℕ) (s : State) (b c : View) (i n : ℕ) (x : Entry)
     (inside : i < length (b .entries)) (agree : Agree g m (s .registers)) (executed : ExecutionChain p g s (map executionOf (b .entries)))
     (fetching : b .fetch ≡ lastState p s (map executionOf (b .entries)) .address)
     (accounting : Accounting g m c) (same : map executionOf (c .entries) ≡ map executionOf (set (b .entries) i x)) (next : c .next ≡ s .address) (fetch : c .fetch ≡ b .fetch)
@@ -68,7 +68,7 @@ module _ (p : List ℕ) (g : Ghost) (m : List ℕ) (s : State) (b c : Core) (i n
         fetching = fetch ∙ fetching ∙ rw same (ap (λ (t : State). t .address) (sym (state-set p s (b .entries) i x like)));
       }
 
-  abbrev d : Core
+  abbrev d : View
   d = dropsTo (suc i) (length (c .entries) - suc i) c
 
   lengths : length (c .entries) ≡ suc i + (length (c .entries) - suc i)

@@ -8,7 +8,7 @@ use native.Mathlib.Decide.{decLe}
 use lib.ListN.{length, getD, set, length-set}
 use lib.Seq.{getD-set-other, set-getD}
 use Rattle.tables.specs.FreeList.{occurrences}
-use Rattle.agreement.proofs.Core.{putHead, putLink}
+use Rattle.agreement.proofs.View.{putHead, putLink}
 use Rattle.agreement.proofs.Pools.{RegisterPool}
 use Rattle.agreement.proofs.Counting.{same, same-refl, same-not, count-set, count-is, count-not, spells-head, spells-none, spells-take, spells-free, outside-take, outside-free}
 

@@ -9,7 +9,7 @@ use lib.ListN.{length, getD, set, length-set, List·getD-eq-default}
 use lib.Seq.{getD-set-other, getD-set-same}
 use Rattle.tables.specs.FreeList.{occurrences}
 use Rattle.tables.specs.declared.Entry.{Entry}
-use Rattle.agreement.proofs.Core.{Core, putHead, putLink, retire}
+use Rattle.agreement.proofs.View.{View, putHead, putLink, retire}
 use Rattle.agreement.proofs.Ghost.{Ghost}
 use Rattle.agreement.proofs.Chains.{renamingOf, Renamed, RenameChain, lastNames}
 use Rattle.agreement.proofs.Contents.{All, ShownIn, HoldsIn, GeneralMap}
@@ -25,7 +25,7 @@ use Rattle.agreement.proofs.Walks.{writers-next, Lacks, lacks-last, lac
 use Rattle.agreement.proofs.ContentLaws.{clear-other, shown-clear, holds-clear, valued-clear}
 use Rattle.agreement.proofs.NameFacts.{no-name}
 
-module _ (g : Ghost) (m : List ℕ) (c : Core) (accounting : Accounting g m c) (e : Entry) (es : List Entry) (is : c .entries ≡ e ∷ es) where
+module _ (g : Ghost) (m : List ℕ) (c : View) (accounting : Accounting g m c) (e : Entry) (es : List Entry) (is : c .entries ≡ e ∷ es) where
   abbrev d : ℕ
   d = e .destination
 

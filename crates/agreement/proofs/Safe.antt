@@ -17,31 +17,31 @@ use Rattle.execution.specs.declared.Stop.{Stop}
 use Rattle.reference.proofs.Laws.{statement}
 use Rattle.tables.specs.Entry.{stoppedEntry, completedEntry, held}
 use Rattle.tables.specs.declared.Entry.{Entry}
-use Rattle.machine.specs.Changes.{entryAt, place}
-use Rattle.machine.specs.Drop.{dropTo}
+use Rattle.core.specs.Changes.{entryAt, place}
+use Rattle.core.specs.Drop.{dropTo}
 use Rattle.decoding.specs.Decode.{entryFor}
 use Rattle.completing.specs.Complete.{outcomeAt, learned}
 use Rattle.stealing.specs.Steal.{robbed}
 use Rattle.committing.specs.Commit.{haltedBy}
-use Rattle.machine.specs.declared.Machine.{Machine}
+use Rattle.core.specs.declared.Core.{Core}
 use Rattle.agreement.specs.Lists.{Call, decode, issue, complete, commit, Event, World, Made, madeBy, make, makeAll, isCommit, callIn, acceptedCommit, acceptedCommits}
-use Rattle.agreement.proofs.Core.{coreOf}
+use Rattle.agreement.proofs.View.{viewOf}
 use Rattle.agreement.proofs.Invariant.{Invariant, Emptied}
 use Rattle.agreement.proofs.Runs.{ran, run-on, run-ends}
 use Rattle.agreement.proofs.Turns.{Turn, refused, enters, issues, ends, settles, takes, steals, retires, halts, turn}
 use Rattle.agreement.proofs.Tests.{by-choice}
-use Rattle.agreement.proofs.Decodes.{decode-machine-keeps, issue-machine-keeps}
-use Rattle.agreement.proofs.Completes.{stop-machine-keeps, settle-machine-keeps, take-machine-keeps, steal-machine-keeps}
-use Rattle.agreement.proofs.Commits.{halted-emptied, halt-machine-stops, retire-machine-steps, retire-machine-stores, retire-machine-keeps}
+use Rattle.agreement.proofs.Decodes.{decode-core-keeps, issue-core-keeps}
+use Rattle.agreement.proofs.Completes.{stop-core-keeps, settle-core-keeps, take-core-keeps, steal-core-keeps}
+use Rattle.agreement.proofs.Commits.{halted-emptied, halt-core-stops, retire-core-steps, retire-core-stores, retire-core-keeps}
 use Rattle.agreement.proofs.Steady.{Steady, steady-enter, steady-learned, steady-robbed, steady-redirected, steady-retired, halted-halt}
 use Rattle.agreement.proofs.Fits.{Fit, world, steady-issued, fit-turn}
 
 -- after n accepted commits
 pub data Safe (program : List ℕ) (start : State) (n : ℕ) (w : World) : Type 0 where
-  alive : (s : State) → runOf n program start ≡ ran s n (stop 0) → w .machine .halt ≡ stop 0 → w .memory ≡ s .memory → getD (s .registers) 0 0 ≡ 0
-      → Invariant program s (coreOf (w .machine)) → Safe program start n w
-  dead : (s : State) (k : ℕ) → n ≡ k + 1 → runOf n program start ≡ ran s k (w .machine .halt) → w .machine .halt .cause ≢ 0 → w .memory ≡ s .memory → getD (s .registers) 0 0 ≡ 0
-      → stepOf program s .stop ≡ w .machine .halt → Emptied s (coreOf (w .machine)) → Safe program start n w
+  alive : (s : State) → runOf n program start ≡ ran s n (stop 0) → w .core .halt ≡ stop 0 → w .memory ≡ s .memory → getD (s .registers) 0 0 ≡ 0
+      → Invariant program s (viewOf (w .core)) → Safe program start n w
+  dead : (s : State) (k : ℕ) → n ≡ k + 1 → runOf n program start ≡ ran s k (w .core .halt) → w .core .halt .cause ≢ 0 → w .memory ≡ s .memory → getD (s .registers) 0 0 ≡ 0
+      → stepOf program s .stop ≡ w .core .halt → Emptied s (viewOf (w .core)) → Safe program start n w
 
 -- what a call adds to the accepted commits
 abbrev pub counted : Call → ℕ → ℕ
@@ -61,8 +61,8 @@ step-zero program s z =
     by-choice (λ (x : Step). getD (x .state .registers) 0 0 ≡ 0) (f .found) (stepWith (f .fields) s) (stoppedAt s (stop (f .cause))) (λ e. statement .zero-kept (f .fields) s ∙ z) (λ e. z)
 
 module _ (program : List ℕ) (start : State) (n : ℕ) (w : World) (f : Fit program w) where
-  abbrev m : Machine
-  m = w .machine
+  abbrev m : Core
+  m = w .core
 
   as-made : (call c : Call) (made x : Made) → call ≡ c → made ≡ x → Safe program start (n + counted c (x .number)) (x .world) → Safe program start (n + counted call (made .number)) (made .world)
   as-made call c made x u e g =
@@ -73,8 +73,8 @@ module _ (program : List ℕ) (start : State) (n : ℕ) (w : World) (f : Fit pro
   same v a z g = subst (λ (x : ℕ). Safe program start x v) (sym (ap (λ (x : ℕ). n + x) z ∙ add-zero n)) g
 
   -- a machine that runs
-  module _ (s : State) (run : runOf n program start ≡ ran s n (stop 0)) (halt : m .halt ≡ stop 0) (memory : w .memory ≡ s .memory) (zeros : getD (s .registers) 0 0 ≡ 0) (inv : Invariant program s (coreOf m)) where
-    on : (b : Machine) → Steady m b → Invariant program s (coreOf b) → Safe program start (n + 0) (world b (w .memory))
+  module _ (s : State) (run : runOf n program start ≡ ran s n (stop 0)) (halt : m .halt ≡ stop 0) (memory : w .memory ≡ s .memory) (zeros : getD (s .registers) 0 0 ≡ 0) (inv : Invariant program s (viewOf m)) where
+    on : (b : Core) → Steady m b → Invariant program s (viewOf b) → Safe program start (n + 0) (world b (w .memory))
     on b t i = same (world b (w .memory)) 0 refl (alive s run (t .halt ∙ halt) memory zeros i)
 
     sized : length (s .memory) ≡ m .setup .bytes
@@ -84,40 +84,40 @@ module _ (program : List ℕ) (start : State) (n : ℕ) (w : World) (f : Fit pro
     turn-alive call made (refused r z e) =
         as-made call call made (madeBy m (w .memory) r) refl e (same w (counted call r) (counted-refused call r z) (alive s run halt memory zeros inv))
     turn-alive call made (enters guess u r l e) =
-        as-made call (decode guess) made _ u e (on _ (steady-enter (entryFor m (fetchAt program (m .fetch)) guess) m) (decode-machine-keeps program s m (f .kept) inv guess l))
+        as-made call (decode guess) made _ u e (on _ (steady-enter (entryFor m (fetchAt program (m .fetch)) guess) m) (decode-core-keeps program s m (f .kept) inv guess l))
     turn-alive call made (issues i u h a b l e) =
-        as-made call (issue i) made _ u e (on _ (steady-issued (w .memory) i m) (issue-machine-keeps program s m (f .kept) inv i (w .memory) memory (h .there) (h .state) a b l))
+        as-made call (issue i) made _ u e (on _ (steady-issued (w .memory) i m) (issue-core-keeps program s m (f .kept) inv i (w .memory) memory (h .there) (h .state) a b l))
     turn-alive call made (ends i u h z e) =
         as-made call (complete i) made _ u e (on (place i (stoppedEntry (outcomeAt m i .stop) (entryAt m i)) m) (record { setup = refl; halt = refl })
-        (stop-machine-keeps program s m (f .kept) inv i (h .there) (h .state) sized z))
+        (stop-core-keeps program s m (f .kept) inv i (h .there) (h .state) sized z))
     turn-alive call made (settles i u h d e) =
         let x : Entry = completedEntry 0 (entryAt m i) in
         let t = steady-redirected i (outcomeAt m i .next) (place i x m) in
         as-made call (complete i) made _ u e (on _ (record { setup = t .setup; halt = t .halt })
-        (settle-machine-keeps program s m (f .kept) inv i (h .at .there) (h .at .state) sized (h .calm) d))
+        (settle-core-keeps program s m (f .kept) inv i (h .at .there) (h .at .state) sized (h .calm) d))
     turn-alive call made (takes i u h d r e) =
-        let b : Machine = learned i (m .registerhead) (outcomeAt m i .result) m in
+        let b : Core = learned i (m .registerhead) (outcomeAt m i .result) m in
         let t = steady-redirected i (outcomeAt m i .next) b in
         let t2 = steady-learned i (m .registerhead) (outcomeAt m i .result) m in
         as-made call (complete i) made _ u e (on _ (record { setup = t .setup ∙ t2 .setup; halt = t .halt ∙ t2 .halt })
-        (take-machine-keeps program s m (f .kept) inv i (h .at .there) (h .at .state) sized (h .calm) d r))
+        (take-core-keeps program s m (f .kept) inv i (h .at .there) (h .at .state) sized (h .calm) d r))
     turn-alive call made (steals i v u h d r y t z e) =
         let register : ℕ = held (m .physical) (entryAt m v) in
-        let b : Machine = learned i register (outcomeAt m i .result) (robbed v m) in
+        let b : Core = learned i register (outcomeAt m i .result) (robbed v m) in
         let t1 = steady-redirected i (outcomeAt m i .next) b in
         let t2 = steady-learned i register (outcomeAt m i .result) (robbed v m) in
         let t3 = steady-robbed v m in
         as-made call (complete i) made _ u e (on _ (record { setup = t1 .setup ∙ t2 .setup ∙ t3 .setup; halt = t1 .halt ∙ t2 .halt ∙ t3 .halt })
-        (steal-machine-keeps program s m (f .kept) inv i (h .at .there) (h .at .state) sized (h .calm) d v y t z r))
+        (steal-core-keeps program s m (f .kept) inv i (h .at .there) (h .at .state) sized (h .calm) d v y t z r))
     turn-alive call made (retires u h c e) =
         let x : Entry = entryAt m 0 in
         as-made call commit made _ u e
-        (alive (stepOf program s .state) (run-on n n program start s run (retire-machine-steps program s m (f .kept) inv (h .there) (h .state) c)) (steady-retired m .halt ∙ halt)
-        (ap (stored (x .instruction) (x .first) (x .second)) memory ∙ retire-machine-stores program s m (f .kept) inv (h .there) (h .state) c)
-        (step-zero program s zeros) (retire-machine-keeps program s m (f .kept) inv (h .there) (h .state) c))
+        (alive (stepOf program s .state) (run-on n n program start s run (retire-core-steps program s m (f .kept) inv (h .there) (h .state) c)) (steady-retired m .halt ∙ halt)
+        (ap (stored (x .instruction) (x .first) (x .second)) memory ∙ retire-core-stores program s m (f .kept) inv (h .there) (h .state) c)
+        (step-zero program s zeros) (retire-core-keeps program s m (f .kept) inv (h .there) (h .state) c))
     turn-alive call made (halts u h c e) =
         let why : Stop = entryAt m 0 .stop in
-        let q : stepOf program s .stop ≡ why = halt-machine-stops program s m (f .kept) inv (h .there) (h .state) c in
+        let q : stepOf program s .stop ≡ why = halt-core-stops program s m (f .kept) inv (h .there) (h .state) c in
         let now : stepOf program s .stop ≡ haltedBy why (dropTo 0 m) .halt = q ∙ sym (halted-halt why (dropTo 0 m)) in
         as-made call commit made _ u e
         (dead s n refl (run-ends n n program start s run (λ z. c (ap (λ (x : Stop). x .cause) (sym q) ∙ z)) ∙ ap (ran s n) now)

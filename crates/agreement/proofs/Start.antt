@@ -11,14 +11,14 @@ use lib.Seq.{getD-append-add}
 use Rattle.reference.specs.Step.{readRegister}
 use Rattle.tables.specs.FreeList.{occurrences, Pool}
 use Rattle.tables.proofs.TableLaws.{look-within}
-use Rattle.machine.specs.SetUp.{ownNumbers, risingNext, risingLink, freshMachine}
+use Rattle.core.specs.SetUp.{ownNumbers, risingNext, risingLink, freshMachine}
 use Rattle.ranges.specs.Sizes.{setUpRefusal}
-use Rattle.machine.specs.Statement.{rising, Fresh}
-use Rattle.machine.proofs.TabulateLaws.{tabulate-length, tabulate-at}
+use Rattle.core.specs.Statement.{rising, Fresh}
+use Rattle.core.proofs.TabulateLaws.{tabulate-length, tabulate-at}
 use Rattle.ranges.proofs.SizeLaws.{Sizes, accepted-sizes}
-use Rattle.machine.proofs.FreshInRange.{statement}
+use Rattle.core.proofs.FreshInRange.{statement}
 use Rattle.agreement.specs.Lists.{origin}
-use Rattle.agreement.proofs.Core.{Core, coreOf}
+use Rattle.agreement.proofs.View.{View, viewOf}
 use Rattle.agreement.proofs.Ghost.{Ghost}
 use Rattle.agreement.proofs.Chains.{RenameChain, lastNames, ExecutionChain, lastState}
 use Rattle.agreement.proofs.Contents.{All, GeneralMap}
@@ -73,8 +73,8 @@ link-outside : (last : ℕ) (free : List ℕ) (head : ℕ) → Pool (risingLink 
 link-outside last free head pool k o = elim (eq? k 0) [ equal e t ↦ rw e (link-zero last) | apart e t ↦ look-within (risingLink last) k e ∙ pool .outside k o ]
 
 module _ (window registers program bytes : ℕ) (sizes : Sizes window registers program bytes) (fresh : Fresh window registers program bytes) where
-  abbrev c : Core
-  c = coreOf (freshMachine window registers program bytes)
+  abbrev c : View
+  c = viewOf (freshMachine window registers program bytes)
 
   register-pool : RegisterPool registers physical 32 (risingLink registers) (rising 32 (registers - 31))
   register-pool =
@@ -174,7 +174,7 @@ zero-read : (n r : ℕ) → readRegister (replicate n 0) r ≡ 0
 zero-read n r = elim (eq? r 0) [ equal e t ↦ rw e (read-zero (replicate n 0)) | apart e t ↦ read-some (replicate n 0) r e ∙ zeros-at n r ]
 
 pub start : (window registers program bytes : ℕ) → setUpRefusal window registers program bytes ≡ 0
-    → (p memory : List ℕ) → Invariant p (origin memory) (coreOf (freshMachine window registers program bytes))
+    → (p memory : List ℕ) → Invariant p (origin memory) (viewOf (freshMachine window registers program bytes))
 unfolding ExecutionChain lastState
 start window registers program bytes accepted p memory =
     let sizes = accepted-sizes window registers program bytes accepted in

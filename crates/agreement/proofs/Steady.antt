@@ -6,50 +6,50 @@ use lib.Dec.{eqb}
 use Rattle.isa.specs.Reads.{choose}
 use Rattle.execution.specs.declared.Stop.{Stop}
 use Rattle.tables.specs.declared.Entry.{Entry}
-use Rattle.machine.specs.Changes.{entryAt, place}
+use Rattle.core.specs.Changes.{entryAt, place}
 use Rattle.decoding.specs.Decode.{enter}
-use Rattle.machine.specs.Drop.{dropYoungest, dropMany, dropTo}
+use Rattle.core.specs.Drop.{dropYoungest, dropMany, dropTo}
 use Rattle.completing.specs.Complete.{learned, refetched, redirected}
 use Rattle.stealing.specs.Steal.{robbed}
 use Rattle.committing.specs.Commit.{haltedBy, retired}
-use Rattle.machine.specs.declared.Machine.{Machine}
+use Rattle.core.specs.declared.Core.{Core}
 
-pub record Steady (a b : Machine) : Type 0 where
+pub record Steady (a b : Core) : Type 0 where
   pub setup : b .setup ≡ a .setup
   pub halt : b .halt ≡ a .halt
 
-pub steady-both : (a b c : Machine) → Steady a b → Steady b c → Steady a c
+pub steady-both : (a b c : Core) → Steady a b → Steady b c → Steady a c
 steady-both a b c s t = record { setup = t .setup ∙ s .setup; halt = t .halt ∙ s .halt }
 
-pub steady-enter : (e : Entry) (m : Machine) → Steady m (enter e m)
+pub steady-enter : (e : Entry) (m : Core) → Steady m (enter e m)
 unfolding enter
 steady-enter e m = record { setup = refl; halt = refl }
 
-pub steady-place : (i : ℕ) (e : Entry) (m : Machine) → Steady m (place i e m)
+pub steady-place : (i : ℕ) (e : Entry) (m : Core) → Steady m (place i e m)
 steady-place i e m = record { setup = refl; halt = refl }
 
-pub steady-learned : (i register result : ℕ) (m : Machine) → Steady m (learned i register result m)
+pub steady-learned : (i register result : ℕ) (m : Core) → Steady m (learned i register result m)
 unfolding learned
 steady-learned i register result m = record { setup = refl; halt = refl }
 
-pub steady-robbed : (v : ℕ) (m : Machine) → Steady m (robbed v m)
+pub steady-robbed : (v : ℕ) (m : Core) → Steady m (robbed v m)
 unfolding robbed
 steady-robbed v m = record { setup = refl; halt = refl }
 
-pub steady-drop : (m : Machine) → Steady m (dropYoungest m)
+pub steady-drop : (m : Core) → Steady m (dropYoungest m)
 unfolding dropYoungest
 steady-drop m = record { setup = refl; halt = refl }
 
-pub steady-drops : (n : ℕ) (m : Machine) → Steady m (dropMany n m)
+pub steady-drops : (n : ℕ) (m : Core) → Steady m (dropMany n m)
 unfolding dropMany
 steady-drops zero m = record { setup = refl; halt = refl }
 steady-drops (suc n) m = steady-both m (dropYoungest m) (dropMany n (dropYoungest m)) (steady-drop m) (steady-drops n (dropYoungest m))
 
-pub steady-refetched : (i next : ℕ) (m : Machine) → Steady m (refetched i next m)
+pub steady-refetched : (i next : ℕ) (m : Core) → Steady m (refetched i next m)
 unfolding refetched
 steady-refetched i next m = record { setup = refl; halt = refl }
 
-pub steady-redirected : (i next : ℕ) (m : Machine) → Steady m (redirected i next m)
+pub steady-redirected : (i next : ℕ) (m : Core) → Steady m (redirected i next m)
 unfolding redirected
 steady-redirected i next m = at (eqb next (entryAt m i .predicted))
   where
@@ -57,14 +57,14 @@ steady-redirected i next m = at (eqb next (entryAt m i .predicted))
     at true = record { setup = refl; halt = refl }
     at false = steady-both m (dropTo (suc i) m) (refetched i next (dropTo (suc i) m)) (steady-drops (m .count - suc i) m) (steady-refetched i next (dropTo (suc i) m))
 
-pub steady-retired : (m : Machine) → Steady m (retired m)
+pub steady-retired : (m : Core) → Steady m (retired m)
 unfolding retired
 steady-retired m = record { setup = refl; halt = refl }
 
-pub halted-setup : (why : Stop) (m : Machine) → haltedBy why m .setup ≡ m .setup
+pub halted-setup : (why : Stop) (m : Core) → haltedBy why m .setup ≡ m .setup
 unfolding haltedBy
 halted-setup why m = refl
 
-pub halted-halt : (why : Stop) (m : Machine) → haltedBy why m .halt ≡ why
+pub halted-halt : (why : Stop) (m : Core) → haltedBy why m .halt ≡ why
 unfolding haltedBy
 halted-halt why m = refl

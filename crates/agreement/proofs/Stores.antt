@@ -17,8 +17,8 @@ use Rattle.tables.specs.declared.Operand.{Operand}
 use Rattle.tables.specs.declared.Operand.the-variants.{Zero, Waiting, Ready}
 use Rattle.tables.specs.declared.Entry.{Entry}
 use Rattle.tables.proofs.TableLaws.{look-within, store-within, store-zero}
-use Rattle.machine.specs.Changes.{changeFirst}
-use Rattle.agreement.proofs.Core.{operandFor, nameIn, informed, informEntry, putHead, putLink}
+use Rattle.core.specs.Changes.{changeFirst}
+use Rattle.agreement.proofs.View.{operandFor, nameIn, informed, informEntry, putHead, putLink}
 
 -- storing under 0 does nothing; so does writing there what stands there
 pub store-set : {A : Type 0} (t : List A) (n : ℕ) (v d : A) → (n ≡ 0 → getD t 0 d ≡ v) → storeUnder t n v ≡ set t n v

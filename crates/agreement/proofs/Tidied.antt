@@ -9,7 +9,7 @@ use Rattle.tables.specs.Entry.{emptyEntry, heldIn, held}
 use Rattle.tables.specs.declared.State.{State as Stage}
 use Rattle.tables.specs.declared.State.the-variants.{Waits, Issued, Completed}
 use Rattle.tables.specs.declared.Entry.{Entry}
-use Rattle.agreement.proofs.Core.{Core}
+use Rattle.agreement.proofs.View.{View}
 use Rattle.agreement.proofs.Ghost.{Ghost}
 use Rattle.agreement.proofs.Chains.{renamingOf, Renamed}
 use Rattle.agreement.proofs.Contents.{holding, without, stopped, early, HoldsIn}
@@ -32,7 +32,7 @@ held-is physical e z (without a b c) = held-completed physical e z a
 held-is physical e z (stopped a b c) = held-completed physical e z a
 held-is physical e z (early a b) = held-early (e .state) physical (e .name) a b
 
-module _ (g : Ghost) (m : List ℕ) (c : Core) (accounting : Accounting g m c) where
+module _ (g : Ghost) (m : List ℕ) (c : View) (accounting : Accounting g m c) where
   zero-register : getD (c .physical) 0 0 ≡ 0
   zero-register = accounting .contents .valued .zeroRegister
 

@@ -10,7 +10,7 @@ use Rattle.tables.specs.Entry.{emptyEntry, heldIn, held}
 use Rattle.tables.specs.declared.State.{State}
 use Rattle.tables.specs.declared.State.the-variants.{Waits, Issued, Completed}
 use Rattle.tables.specs.declared.Entry.{Entry}
-use Rattle.agreement.proofs.Core.{Core, putLink, dropAt}
+use Rattle.agreement.proofs.View.{View, putLink, dropAt}
 use Rattle.agreement.proofs.Stores.{look-get}
 
 -- the register under an entry's name is the one that it holds
@@ -19,7 +19,7 @@ pub record Plain (physical : List ℕ) (e : Entry) : Type 0 where
   pub baseless : e .destination ≡ 0 → e .previous ≡ 0
   pub holds : held physical e ≡ getD physical (e .name) 0
 
-pub record Tidy (c : Core) : Type 0 where
+pub record Tidy (c : View) : Type 0 where
   pub physical : getD (c .physical) 0 0 ≡ 0
   pub names : getD (c .names) 0 0 ≡ 0
   pub registers : getD (c .registers) 0 0 ≡ 0
@@ -56,7 +56,7 @@ pub plain-cleared : (physical : List ℕ) (n : ℕ) (e : Entry) → getD physica
 plain-cleared physical n e z p =
     record { nameless = p .nameless; baseless = p .baseless; holds = held-cleared (e .state) physical n (e .name) z (p .holds) }
 
-pub tidy-drop : (k : ℕ) (c : Core) → Tidy c → k < length (c .entries) → Tidy (dropAt k c)
+pub tidy-drop : (k : ℕ) (c : View) → Tidy c → k < length (c .entries) → Tidy (dropAt k c)
 unfolding dropAt
 tidy-drop k c t h =
     let e : Entry = getD (c .entries) k emptyEntry in

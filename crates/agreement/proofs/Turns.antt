@@ -16,53 +16,53 @@ use Rattle.tables.specs.Entry.{isWaiting, isIssued, isCompleted, stoppedEntry, 
 use Rattle.tables.specs.declared.State.{State as Stage}
 use Rattle.tables.specs.declared.State.the-variants.{Waits, Issued, Completed}
 use Rattle.tables.specs.declared.Entry.{Entry}
-use Rattle.machine.specs.Range.{machineInRange}
-use Rattle.machine.specs.Call.{halted, noEntry, lengthsDiffer, lentRefusal, inTurn, answered}
-use Rattle.machine.specs.Changes.{entryAt, place}
-use Rattle.machine.specs.Drop.{dropTo}
+use Rattle.core.specs.Range.{machineInRange}
+use Rattle.core.specs.Call.{halted, noEntry, lengthsDiffer, lentRefusal, inTurn, answered}
+use Rattle.core.specs.Changes.{entryAt, place}
+use Rattle.core.specs.Drop.{dropTo}
 use Rattle.decoding.specs.Decode.{decodeRefusal, decoded, decodeOf}
 use Rattle.issuing.specs.Issue.{storeBelow, unready, issueRefusal, issued, issueOf}
 use Rattle.completing.specs.Complete.{outcomeAt, needsRegister, noneFree, completeRefusal, learned, redirected, completed, completeOf}
 use Rattle.stealing.specs.Steal.{victimOf, noVictim, robbed}
 use Rattle.committing.specs.Commit.{commitRefusal, haltedBy, retired, committed, writtenBy, Commit, commitBy, commitOf}
-use Rattle.machine.specs.declared.Machine.{Machine}
-use Rattle.machine.specs.declared.Answer.{Answer}
+use Rattle.core.specs.declared.Core.{Core}
+use Rattle.core.specs.declared.Answer.{Answer}
 use Rattle.agreement.specs.Lists.{Call, decode, issue, complete, commit, Event, own, other, World, Made, madeBy, callOf, aside, make, callIn}
 use Rattle.agreement.proofs.Refusals.{none-first, in-turn, in-turn-lent, is-zero, and-false}
 use Rattle.agreement.proofs.Victims.{victim-is}
 
 -- the machine runs and has an entry there, in this state
-pub record At (m : Machine) (i : ℕ) (s : Stage) : Type 0 where
+pub record At (m : Core) (i : ℕ) (s : Stage) : Type 0 where
   pub runs : m .halt .cause ≡ 0
   pub there : i < m .count
   pub state : entryAt m i .state ≡ s
 
 -- an issued entry that goes on without a cause
-pub record Goes (m : Machine) (i : ℕ) : Type 0 where
+pub record Goes (m : Core) (i : ℕ) : Type 0 where
   pub at : At m i Issued
   pub calm : outcomeAt m i .stop .cause ≡ 0
 
 pub data Turn (program : List ℕ) (w : World) (call : Call) (made : Made) : Type 0 where
-  refused : (n : ℕ) → (n ≡ 0 → ⊥) → made ≡ madeBy (w .machine) (w .memory) n → Turn program w call made
-  enters : (guess : ℕ) → call ≡ decode guess → w .machine .halt .cause ≡ 0 → w .machine .count < w .machine .setup .window
-      → made ≡ madeBy (decoded program guess (w .machine)) (w .memory) 0 → Turn program w call made
-  issues : (i : ℕ) → call ≡ issue i → At (w .machine) i Waits → isReady (entryAt (w .machine) i .left) ≡ true → isReady (entryAt (w .machine) i .right) ≡ true
-      → (loads (entryAt (w .machine) i .instruction) ≡ true → storeBelow i (w .machine .entries) ≡ false)
-      → made ≡ madeBy (issued (w .memory) i (w .machine)) (w .memory) 0 → Turn program w call made
-  ends : (i : ℕ) → call ≡ complete i → At (w .machine) i Issued → (outcomeAt (w .machine) i .stop .cause ≡ 0 → ⊥)
-      → made ≡ madeBy (place i (stoppedEntry (outcomeAt (w .machine) i .stop) (entryAt (w .machine) i)) (w .machine)) (w .memory) 0 → Turn program w call made
-  settles : (i : ℕ) → call ≡ complete i → Goes (w .machine) i → entryAt (w .machine) i .destination ≡ 0
-      → made ≡ madeBy (redirected i (outcomeAt (w .machine) i .next) (place i (completedEntry 0 (entryAt (w .machine) i)) (w .machine))) (w .memory) 0 → Turn program w call made
-  takes : (i : ℕ) → call ≡ complete i → Goes (w .machine) i → (entryAt (w .machine) i .destination ≡ 0 → ⊥) → (w .machine .registerhead ≡ 0 → ⊥)
-      → made ≡ madeBy (redirected i (outcomeAt (w .machine) i .next) (learned i (w .machine .registerhead) (outcomeAt (w .machine) i .result) (w .machine))) (w .memory) 0 → Turn program w call made
-  steals : (i v : ℕ) → call ≡ complete i → Goes (w .machine) i → (entryAt (w .machine) i .destination ≡ 0 → ⊥) → w .machine .registerhead ≡ 0
-      → i < v → v < w .machine .count → (held (w .machine .physical) (entryAt (w .machine) v) ≡ 0 → ⊥)
-      → made ≡ madeBy (redirected i (outcomeAt (w .machine) i .next) (learned i (held (w .machine .physical) (entryAt (w .machine) v)) (outcomeAt (w .machine) i .result) (robbed v (w .machine)))) (w .memory) 0
+  refused : (n : ℕ) → (n ≡ 0 → ⊥) → made ≡ madeBy (w .core) (w .memory) n → Turn program w call made
+  enters : (guess : ℕ) → call ≡ decode guess → w .core .halt .cause ≡ 0 → w .core .count < w .core .setup .window
+      → made ≡ madeBy (decoded program guess (w .core)) (w .memory) 0 → Turn program w call made
+  issues : (i : ℕ) → call ≡ issue i → At (w .core) i Waits → isReady (entryAt (w .core) i .left) ≡ true → isReady (entryAt (w .core) i .right) ≡ true
+      → (loads (entryAt (w .core) i .instruction) ≡ true → storeBelow i (w .core .entries) ≡ false)
+      → made ≡ madeBy (issued (w .memory) i (w .core)) (w .memory) 0 → Turn program w call made
+  ends : (i : ℕ) → call ≡ complete i → At (w .core) i Issued → (outcomeAt (w .core) i .stop .cause ≡ 0 → ⊥)
+      → made ≡ madeBy (place i (stoppedEntry (outcomeAt (w .core) i .stop) (entryAt (w .core) i)) (w .core)) (w .memory) 0 → Turn program w call made
+  settles : (i : ℕ) → call ≡ complete i → Goes (w .core) i → entryAt (w .core) i .destination ≡ 0
+      → made ≡ madeBy (redirected i (outcomeAt (w .core) i .next) (place i (completedEntry 0 (entryAt (w .core) i)) (w .core))) (w .memory) 0 → Turn program w call made
+  takes : (i : ℕ) → call ≡ complete i → Goes (w .core) i → (entryAt (w .core) i .destination ≡ 0 → ⊥) → (w .core .registerhead ≡ 0 → ⊥)
+      → made ≡ madeBy (redirected i (outcomeAt (w .core) i .next) (learned i (w .core .registerhead) (outcomeAt (w .core) i .result) (w .core))) (w .memory) 0 → Turn program w call made
+  steals : (i v : ℕ) → call ≡ complete i → Goes (w .core) i → (entryAt (w .core) i .destination ≡ 0 → ⊥) → w .core .registerhead ≡ 0
+      → i < v → v < w .core .count → (held (w .core .physical) (entryAt (w .core) v) ≡ 0 → ⊥)
+      → made ≡ madeBy (redirected i (outcomeAt (w .core) i .next) (learned i (held (w .core .physical) (entryAt (w .core) v)) (outcomeAt (w .core) i .result) (robbed v (w .core)))) (w .memory) 0
       → Turn program w call made
-  retires : call ≡ commit → At (w .machine) 0 Completed → entryAt (w .machine) 0 .stop .cause ≡ 0
-      → made ≡ madeBy (retired (w .machine)) (let e : Entry = entryAt (w .machine) 0 in stored (e .instruction) (e .first) (e .second) (w .memory)) 0 → Turn program w call made
-  halts : call ≡ commit → At (w .machine) 0 Completed → (entryAt (w .machine) 0 .stop .cause ≡ 0 → ⊥)
-      → made ≡ madeBy (haltedBy (entryAt (w .machine) 0 .stop) (dropTo 0 (w .machine))) (w .memory) 0 → Turn program w call made
+  retires : call ≡ commit → At (w .core) 0 Completed → entryAt (w .core) 0 .stop .cause ≡ 0
+      → made ≡ madeBy (retired (w .core)) (let e : Entry = entryAt (w .core) 0 in stored (e .instruction) (e .first) (e .second) (w .memory)) 0 → Turn program w call made
+  halts : call ≡ commit → At (w .core) 0 Completed → (entryAt (w .core) 0 .stop .cause ≡ 0 → ⊥)
+      → made ≡ madeBy (haltedBy (entryAt (w .core) 0 .stop) (dropTo 0 (w .core))) (w .memory) 0 → Turn program w call made
 
 -- what the tests of a state say
 pub is-waiting : (s : Stage) → not (isWaiting s) ≡ false → s ≡ Waits
@@ -81,18 +81,18 @@ is-completed Issued e = impossible (sym e)
 is-completed Completed e = refl
 
 -- an answer, by its refusal
-by-answer : (P : Machine → ℕ → Type 0) (m next : Machine) (refusal : ℕ) → ((refusal ≡ 0 → ⊥) → P m refusal) → (refusal ≡ 0 → P next 0)
-    → P (answered m refusal next .machine) (answered m refusal next .number)
+by-answer : (P : Core → ℕ → Type 0) (m next : Core) (refusal : ℕ) → ((refusal ≡ 0 → ⊥) → P m refusal) → (refusal ≡ 0 → P next 0)
+    → P (answered m refusal next .core) (answered m refusal next .number)
 by-answer P m next refusal f g = at (eqb refusal 0) refl
   where
     at : (b : Bool) → eqb refusal 0 ≡ b
-        → let a : Answer = choose b (record { machine = next; number = 0 }) (record { machine = m; number = refusal }) in P (a .machine) (a .number)
+        → let a : Answer = choose b (record { core = next; number = 0 }) (record { core = m; number = refusal }) in P (a .core) (a .number)
     at true e = g (eqb-true refusal 0 e)
     at false e = f (eqb-false refusal 0 e)
 
 module _ (program : List ℕ) (w : World) where
-  abbrev m : Machine
-  m = w .machine
+  abbrev m : Core
+  m = w .core
 
   abbrev lent : ℕ
   lent = lentRefusal m program (w .memory)
@@ -160,12 +160,12 @@ module _ (program : List ℕ) (w : World) where
   commit-at h false e = halts refl h (eqb-false (entryAt m 0 .stop .cause) 0 e) refl
 
   commit-by : (refusal : ℕ) → (refusal ≡ 0 → At m 0 Completed)
-      → Turn program w commit (madeBy (commitBy refusal (w .memory) m .answer .machine) (commitBy refusal (w .memory) m .memory) (commitBy refusal (w .memory) m .answer .number))
+      → Turn program w commit (madeBy (commitBy refusal (w .memory) m .answer .core) (commitBy refusal (w .memory) m .memory) (commitBy refusal (w .memory) m .answer .number))
   commit-by refusal h = at (eqb refusal 0) refl
     where
       at : (b : Bool) → eqb refusal 0 ≡ b
-          → let c : Commit = choose b (record { answer = record { machine = committed m; number = 0 }; memory = writtenBy (entryAt m 0) (w .memory) }) (record { answer = record { machine = m; number = refusal }; memory = w .memory }) in
-          Turn program w commit (madeBy (c .answer .machine) (c .memory) (c .answer .number))
+          → let c : Commit = choose b (record { answer = record { core = committed m; number = 0 }; memory = writtenBy (entryAt m 0) (w .memory) }) (record { answer = record { core = m; number = refusal }; memory = w .memory }) in
+          Turn program w commit (madeBy (c .answer .core) (c .memory) (c .answer .number))
       at true e = commit-at (h (eqb-true refusal 0 e)) (eqb (entryAt m 0 .stop .cause) 0) refl
       at false e = refused refusal (eqb-false refusal 0 e) refl
 
@@ -187,7 +187,7 @@ module _ (program : List ℕ) (w : World) where
   call-turn commit = commit-turn
 
 -- bytes of other lengths are refused, whatever the call
-differ : (m : Machine) (program memory : List ℕ) → lengthsDiffer m program memory ≡ true → lentRefusal m program memory ≡ 0 → ⊥
+differ : (m : Core) (program memory : List ℕ) → lengthsDiffer m program memory ≡ true → lentRefusal m program memory ≡ 0 → ⊥
 unfolding lentRefusal
 differ m program memory d e =
     let p = none-first (not (machineInRange m)) 5 (when (lengthsDiffer m program memory) 6 ∷ []) (λ z. omega arith) e in
@@ -195,24 +195,24 @@ differ m program memory d e =
     impossible (sym (q .here) ∙ d)
 
 -- the machine as it came, with a refusal
-pub record Turned (m : Machine) (made : Made) : Type 0 where
+pub record Turned (m : Core) (made : Made) : Type 0 where
   pub number : made .number ≡ 0 → ⊥
-  pub machine : made .world .machine ≡ m
+  pub core : made .world .core ≡ m
 
-module _ (program memory : List ℕ) (m : Machine) (l : lentRefusal m program memory ≡ 0 → ⊥) where
-  answer-turned : (test : ℕ) (next : Machine) (bytes : List ℕ)
-      → let a : Answer = answered m (inTurn (lentRefusal m program memory) test) next in Turned m (madeBy (a .machine) bytes (a .number))
+module _ (program memory : List ℕ) (m : Core) (l : lentRefusal m program memory ≡ 0 → ⊥) where
+  answer-turned : (test : ℕ) (next : Core) (bytes : List ℕ)
+      → let a : Answer = answered m (inTurn (lentRefusal m program memory) test) next in Turned m (madeBy (a .core) bytes (a .number))
   answer-turned test next bytes =
-      by-answer (λ x n. Turned m (madeBy x bytes n)) m next (inTurn (lentRefusal m program memory) test) (λ z. record { number = z; machine = refl }) (λ z. absurd (in-turn-lent (lentRefusal m program memory) test l z))
+      by-answer (λ x n. Turned m (madeBy x bytes n)) m next (inTurn (lentRefusal m program memory) test) (λ z. record { number = z; core = refl }) (λ z. absurd (in-turn-lent (lentRefusal m program memory) test l z))
 
-  commit-turned : (test : ℕ) → let c : Commit = commitBy (inTurn (lentRefusal m program memory) test) memory m in Turned m (madeBy (c .answer .machine) (c .memory) (c .answer .number))
+  commit-turned : (test : ℕ) → let c : Commit = commitBy (inTurn (lentRefusal m program memory) test) memory m in Turned m (madeBy (c .answer .core) (c .memory) (c .answer .number))
   commit-turned test = at (eqb (inTurn (lentRefusal m program memory) test) 0) refl
     where
       at : (b : Bool) → eqb (inTurn (lentRefusal m program memory) test) 0 ≡ b
-          → let c : Commit = choose b (record { answer = record { machine = committed m; number = 0 }; memory = writtenBy (entryAt m 0) memory }) (record { answer = record { machine = m; number = inTurn (lentRefusal m program memory) test }; memory = memory }) in
-          Turned m (madeBy (c .answer .machine) (c .memory) (c .answer .number))
+          → let c : Commit = choose b (record { answer = record { core = committed m; number = 0 }; memory = writtenBy (entryAt m 0) memory }) (record { answer = record { core = m; number = inTurn (lentRefusal m program memory) test }; memory = memory }) in
+          Turned m (madeBy (c .answer .core) (c .memory) (c .answer .number))
       at true e = absurd (in-turn-lent (lentRefusal m program memory) test l (eqb-true (inTurn (lentRefusal m program memory) test) 0 e))
-      at false e = record { number = eqb-false (inTurn (lentRefusal m program memory) test) 0 e; machine = refl }
+      at false e = record { number = eqb-false (inTurn (lentRefusal m program memory) test) 0 e; core = refl }
 
   pub call-turned : (call : Call) → Turned m (callOf program memory call m)
   unfolding decodeOf issueOf completeOf commitOf
@@ -224,11 +224,11 @@ module _ (program memory : List ℕ) (m : Machine) (l : lentRefusal m program me
 pub turn : (program : List ℕ) (e : Event) (w : World) → Turn program w (callIn e) (make program e w)
 unfolding make
 turn program (own call) w = call-turn program w call
-turn program (other call bytes memory) w = at (lengthsDiffer (w .machine) bytes memory) refl
+turn program (other call bytes memory) w = at (lengthsDiffer (w .core) bytes memory) refl
   where
-    at : (b : Bool) → lengthsDiffer (w .machine) bytes memory ≡ b
-        → Turn program w call (choose b (aside w (callOf bytes memory call (w .machine))) (callOf program (w .memory) call (w .machine)))
+    at : (b : Bool) → lengthsDiffer (w .core) bytes memory ≡ b
+        → Turn program w call (choose b (aside w (callOf bytes memory call (w .core))) (callOf program (w .memory) call (w .core)))
     at true e =
-        let t = call-turned bytes memory (w .machine) (differ (w .machine) bytes memory e) call in
-        refused (callOf bytes memory call (w .machine) .number) (t .number) (ap (λ (x : Machine). madeBy x (w .memory) (callOf bytes memory call (w .machine) .number)) (t .machine))
+        let t = call-turned bytes memory (w .core) (differ (w .core) bytes memory e) call in
+        refused (callOf bytes memory call (w .core) .number) (t .number) (ap (λ (x : Core). madeBy x (w .memory) (callOf bytes memory call (w .core) .number)) (t .core))
     at false e = call-turn program w call

@@ -15,38 +15,38 @@ use Rattle.tables.specs.FreeList.{freedHead, freedLink, takenHead}
 use Rattle.tables.specs.Entry.{emptyEntry, predictedEntry}
 use Rattle.tables.specs.declared.Entry.{Entry}
 use Rattle.tables.proofs.TableLaws.{store-within, store-zero}
-use Rattle.machine.specs.Changes.{entryAt, place}
+use Rattle.core.specs.Changes.{entryAt, place}
 use Rattle.decoding.specs.Decode.{enter}
-use Rattle.machine.specs.Drop.{dropYoungest, dropMany, dropTo}
+use Rattle.core.specs.Drop.{dropYoungest, dropMany, dropTo}
 use Rattle.completing.specs.Complete.{refetched, redirected}
 use Rattle.committing.specs.Commit.{haltedBy, moveDown, retired}
-use Rattle.machine.specs.declared.Machine.{Machine}
-use Rattle.machine.proofs.DropLaws.{drop-count}
-use Rattle.agreement.proofs.Core.{Core, coreOf, dropAt, dropsTo, placed, retire, append, steer, redirect}
+use Rattle.core.specs.declared.Core.{Core}
+use Rattle.core.proofs.DropLaws.{drop-count}
+use Rattle.agreement.proofs.View.{View, viewOf, dropAt, dropsTo, placed, retire, append, steer, redirect}
 use Rattle.agreement.proofs.Stores.{store-set, look-get, freed-head, freed-link}
 use Rattle.agreement.proofs.Kept.{Kept, kept-drop}
 use Rattle.agreement.proofs.Tidy.{Plain, Tidy, cleared-kept, tidy-drop}
 
 -- the entries that the count covers
-pub seen-length : (m : Machine) → Kept m → length (coreOf m .entries) ≡ m .count
+pub seen-length : (m : Core) → Kept m → length (viewOf m .entries) ≡ m .count
 seen-length m k = let c = k .count in let w = k .window in let l = k .entries in length-take-le (m .count) (m .entries) (omega arith)
 
-pub seen-entry : (m : Machine) (i : ℕ) → i < m .count → getD (coreOf m .entries) i emptyEntry ≡ entryAt m i
+pub seen-entry : (m : Core) (i : ℕ) → i < m .count → getD (viewOf m .entries) i emptyEntry ≡ entryAt m i
 seen-entry m i h = getD-take (m .count) (m .entries) i emptyEntry h
 
-pub view-place : (i : ℕ) (e : Entry) (m : Machine) → i < m .count → coreOf (place i e m) ≡ placed i e (coreOf m)
+pub view-place : (i : ℕ) (e : Entry) (m : Core) → i < m .count → viewOf (place i e m) ≡ placed i e (viewOf m)
 view-place i e m h = rw (take-set-lt (m .count) (m .entries) i e h)
 
-pub view-halted : (why : Stop) (m : Machine) → coreOf (haltedBy why m) ≡ steer (m .fetch) (m .next) why (coreOf m)
+pub view-halted : (why : Stop) (m : Core) → viewOf (haltedBy why m) ≡ steer (m .fetch) (m .next) why (viewOf m)
 unfolding haltedBy
 view-halted why m = refl
 
 -- decode: the name of an entry with a destination is the head of the pool
-module _ (e : Entry) (m : Machine) (k : Kept m) (h : m .count < m .setup .window) (z : getD (m .namelink) 0 0 ≡ 0) where
+module _ (e : Entry) (m : Core) (k : Kept m) (h : m .count < m .setup .window) (z : getD (m .namelink) 0 0 ≡ 0) where
   entered : take (suc (m .count)) (set (m .entries) (m .count) e) ≡ take (m .count) (m .entries) ++ e ∷ []
   entered = let w = k .window in let l = k .entries in take-suc-set (m .entries) (m .count) e (omega arith)
 
-  enter-at : (d : ℕ) → e .destination ≡ d → (d ≡ 0 → e .name ≡ 0) → ((d ≡ 0 → ⊥) → e .name ≡ m .namehead) → coreOf (enter e m) ≡ append d e (coreOf m)
+  enter-at : (d : ℕ) → e .destination ≡ d → (d ≡ 0 → e .name ≡ 0) → ((d ≡ 0 → ⊥) → e .name ≡ m .namehead) → viewOf (enter e m) ≡ append d e (viewOf m)
   unfolding enter append
   enter-at zero q none some = λ i. record {
     setup = m .setup;
@@ -82,12 +82,12 @@ module _ (e : Entry) (m : Machine) (k : Kept m) (h : m .count < m .setup .window
         halt = m .halt;
       }
 
-  pub view-enter : (e .destination ≡ 0 → e .name ≡ 0) → ((e .destination ≡ 0 → ⊥) → e .name ≡ m .namehead) → coreOf (enter e m) ≡ append (e .destination) e (coreOf m)
+  pub view-enter : (e .destination ≡ 0 → e .name ≡ 0) → ((e .destination ≡ 0 → ⊥) → e .name ≡ m .namehead) → viewOf (enter e m) ≡ append (e .destination) e (viewOf m)
   view-enter none some = enter-at (e .destination) refl none some
 
 -- drop: the youngest entry's register is the one under its name
-module _ (m : Machine) (k : Kept m) (some : 0 < m .count) (t : Tidy (coreOf m)) where
-  pub view-drop : coreOf (dropYoungest m) ≡ dropAt (m .count - 1) (coreOf m)
+module _ (m : Core) (k : Kept m) (some : 0 < m .count) (t : Tidy (viewOf m)) where
+  pub view-drop : viewOf (dropYoungest m) ≡ dropAt (m .count - 1) (viewOf m)
   unfolding dropYoungest dropAt
   view-drop =
       let n : ℕ = m .count - 1 in
@@ -116,33 +116,33 @@ module _ (m : Machine) (k : Kept m) (some : 0 < m .count) (t : Tidy (coreOf m)) 
         halt = m .halt;
       })
 
-pub drops-count : (n : ℕ) (m : Machine) → dropMany n m .count ≡ m .count - n
+pub drops-count : (n : ℕ) (m : Core) → dropMany n m .count ≡ m .count - n
 unfolding dropMany
 drops-count zero m = omega arith
 drops-count (suc n) m = let d = drop-count m in let r = drops-count n (dropYoungest m) in omega arith
 
-pub tidy-drop-machine : (m : Machine) → Kept m → 0 < m .count → Tidy (coreOf m) → Tidy (coreOf (dropYoungest m))
-tidy-drop-machine m k some t =
+pub tidy-drop-core : (m : Core) → Kept m → 0 < m .count → Tidy (viewOf m) → Tidy (viewOf (dropYoungest m))
+tidy-drop-core m k some t =
     let l = seen-length m k in
-    subst Tidy (sym (view-drop m k some t)) (tidy-drop (m .count - 1) (coreOf m) t (omega arith))
+    subst Tidy (sym (view-drop m k some t)) (tidy-drop (m .count - 1) (viewOf m) t (omega arith))
 
 -- n entries are dropped, kept are left
-pub view-drops : (n kept : ℕ) (m : Machine) → Kept m → Tidy (coreOf m) → m .count ≡ kept + n → coreOf (dropMany n m) ≡ dropsTo kept n (coreOf m)
+pub view-drops : (n kept : ℕ) (m : Core) → Kept m → Tidy (viewOf m) → m .count ≡ kept + n → viewOf (dropMany n m) ≡ dropsTo kept n (viewOf m)
 unfolding dropMany dropsTo
 view-drops zero kept m k t e = refl
 view-drops (suc n) kept m k t e =
     let some : 0 < m .count = omega arith in
     let c = drop-count m in
     let last : m .count - 1 ≡ kept + n = omega arith in
-    view-drops n kept (dropYoungest m) (kept-drop m k) (tidy-drop-machine m k some t) (omega arith)
-    ∙ ap (dropsTo kept n) (view-drop m k some t ∙ ap (λ (x : ℕ). dropAt x (coreOf m)) last)
+    view-drops n kept (dropYoungest m) (kept-drop m k) (tidy-drop-core m k some t) (omega arith)
+    ∙ ap (dropsTo kept n) (view-drop m k some t ∙ ap (λ (x : ℕ). dropAt x (viewOf m)) last)
 
-pub view-drop-to : (kept : ℕ) (m : Machine) → Kept m → Tidy (coreOf m) → kept ≤ m .count → coreOf (dropTo kept m) ≡ dropsTo kept (m .count - kept) (coreOf m)
+pub view-drop-to : (kept : ℕ) (m : Core) → Kept m → Tidy (viewOf m) → kept ≤ m .count → viewOf (dropTo kept m) ≡ dropsTo kept (m .count - kept) (viewOf m)
 view-drop-to kept m k t h = view-drops (m .count - kept) kept m k t (omega arith)
 
 -- redirection
-pub view-refetched : (i next : ℕ) (m : Machine) → i < m .count
-    → coreOf (refetched i next m) ≡ steer next (m .next) (m .halt) (placed i (predictedEntry next (getD (coreOf m .entries) i emptyEntry)) (coreOf m))
+pub view-refetched : (i next : ℕ) (m : Core) → i < m .count
+    → viewOf (refetched i next m) ≡ steer next (m .next) (m .halt) (placed i (predictedEntry next (getD (viewOf m .entries) i emptyEntry)) (viewOf m))
 unfolding refetched
 view-refetched i next m h = λ j. record {
   setup = m .setup;
@@ -161,22 +161,22 @@ view-refetched i next m h = λ j. record {
   halt = m .halt;
 }
 
-module _ (i next : ℕ) (m : Machine) (k : Kept m) (t : Tidy (coreOf m)) (h : i < m .count) where
-  redirect-at : (b : Bool) → coreOf (choose b m (refetched i next (dropTo (suc i) m))) ≡ choose b (coreOf m) (let d : Core = dropsTo (suc i) (length (coreOf m .entries) - suc i) (coreOf m) in
+module _ (i next : ℕ) (m : Core) (k : Kept m) (t : Tidy (viewOf m)) (h : i < m .count) where
+  redirect-at : (b : Bool) → viewOf (choose b m (refetched i next (dropTo (suc i) m))) ≡ choose b (viewOf m) (let d : View = dropsTo (suc i) (length (viewOf m .entries) - suc i) (viewOf m) in
       steer next (d .next) (d .halt) (placed i (predictedEntry next (getD (d .entries) i emptyEntry)) d))
   redirect-at true = refl
   redirect-at false =
       let n : ℕ = m .count - suc i in
       let c = drops-count n m in
       view-refetched i next (dropTo (suc i) m) (omega arith)
-      ∙ ap (λ (d : Core). steer next (d .next) (d .halt) (placed i (predictedEntry next (getD (d .entries) i emptyEntry)) d))
-      (view-drop-to (suc i) m k t h ∙ ap (λ (x : ℕ). dropsTo (suc i) (x - suc i) (coreOf m)) (sym (seen-length m k)))
+      ∙ ap (λ (d : View). steer next (d .next) (d .halt) (placed i (predictedEntry next (getD (d .entries) i emptyEntry)) d))
+      (view-drop-to (suc i) m k t h ∙ ap (λ (x : ℕ). dropsTo (suc i) (x - suc i) (viewOf m)) (sym (seen-length m k)))
 
-  pub view-redirected : coreOf (redirected i next m) ≡ redirect i next (coreOf m)
+  pub view-redirected : viewOf (redirected i next m) ≡ redirect i next (viewOf m)
   unfolding redirected redirect
   view-redirected =
       redirect-at (eqb next (entryAt m i .predicted))
-      ∙ ap (λ (e : Entry). choose (eqb next (e .predicted)) (coreOf m) (let d : Core = dropsTo (suc i) (length (coreOf m .entries) - suc i) (coreOf m) in
+      ∙ ap (λ (e : Entry). choose (eqb next (e .predicted)) (viewOf m) (let d : View = dropsTo (suc i) (length (viewOf m .entries) - suc i) (viewOf m) in
       steer next (d .next) (d .halt) (placed i (predictedEntry next (getD (d .entries) i emptyEntry)) d))) (sym (seen-entry m i h))
 
 -- commit
@@ -184,7 +184,7 @@ is-moved : (count : ℕ) (entries : List Entry) → length (drop 1 (take count e
 unfolding moveDown
 is-moved count entries l = take-at (drop 1 (take count entries)) (emptyEntry ∷ drop count entries) (count - 1) l
 
-pub view-retired : (m : Machine) → Kept m → 0 < m .count → getD (m .physical) 0 0 ≡ 0 → coreOf (retired m) ≡ retire (coreOf m)
+pub view-retired : (m : Core) → Kept m → 0 < m .count → getD (m .physical) 0 0 ≡ 0 → viewOf (retired m) ≡ retire (viewOf m)
 unfolding retired retire
 view-retired m k some z =
     let e : Entry = entryAt m 0 in

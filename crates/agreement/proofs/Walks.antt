@@ -12,7 +12,7 @@ use Rattle.execution.specs.Roles.{stores}
 use Rattle.reference.specs.Step.{State, state, firstSource, secondSource, destination, stepOf}
 use Rattle.tables.specs.Entry.{emptyEntry}
 use Rattle.tables.specs.declared.Entry.{Entry}
-use Rattle.agreement.proofs.Core.{nameIn}
+use Rattle.agreement.proofs.View.{nameIn}
 use Rattle.agreement.proofs.Ghost.{Ghost, Writers, Agree}
 use Rattle.agreement.proofs.Chains.{renamingOf, Renamed, RenameChain, lastNames, executionOf, Executes, followed, ExecutionChain, lastState}
 use Rattle.agreement.proofs.Contents.{All}

@@ -5,7 +5,7 @@ use mathlib.Core.Bool.{true}
 use mathlib.Core.List.{List}
 use lib.ListN.{length}
 use Rattle.ranges.specs.Sizes.{setUpRefusal}
-use Rattle.machine.specs.Range.{machineInRange}
+use Rattle.core.specs.Range.{machineInRange}
 use Rattle.agreement.specs.Lists.{Event, World, makeAll, started}
 
 abbrev pub Unrefused : Type 0
@@ -13,4 +13,4 @@ Unrefused =
     (window registers : ℕ) (program memory : List ℕ) → setUpRefusal window registers (length program) (length memory) ≡ 0
     → (events : List Event)
     → let start : World = started window registers (length program) (length memory) memory in
-    machineInRange (makeAll program events start .machine) ≡ true
+    machineInRange (makeAll program events start .core) ≡ true

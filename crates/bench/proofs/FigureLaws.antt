@@ -6,11 +6,11 @@ use mathlib.Core.List.{List}
 use native.Mathlib.Omega.{arith}
 use borrow.Author.Tests.{eq-eqb, ne-eqb}
 use lib.ListN.{length}
-use Rattle.machine.specs.SetUp.{freshMachine, setUpOf}
+use Rattle.core.specs.SetUp.{freshMachine, setUpOf}
 use Rattle.ranges.specs.Sizes.{setUpRefusal}
-use Rattle.machine.specs.Report.{reportOf}
-use Rattle.machine.specs.declared.Answer.{Answer}
-use Rattle.machine.specs.declared.Report.{Report}
+use Rattle.core.specs.Report.{reportOf}
+use Rattle.core.specs.declared.Answer.{Answer}
+use Rattle.core.specs.declared.Report.{Report}
 use Rattle.formats.specs.Schedule.{windowIn, registersIn, scheduleFits}
 use Rattle.formats.specs.Chain.{eventsOf}
 use Rattle.formats.specs.Result.{rateOf, resultBytes}
@@ -26,10 +26,10 @@ use Rattle.bench.specs.declared.Replayed.{Replayed}
 use Rattle.bench.proofs.RefusalLaws.{Unrefused, unrefused, head-fits}
 
 -- the machine of record 0's set-up
-set-machine : (window registers program bytes : ℕ) (a : Answer) → a ≡ setUpOf window registers program bytes → setUpRefusal window registers program bytes ≡ 0
-    → a .machine ≡ freshMachine window registers program bytes
+set-core : (window registers program bytes : ℕ) (a : Answer) → a ≡ setUpOf window registers program bytes → setUpRefusal window registers program bytes ≡ 0
+    → a .core ≡ freshMachine window registers program bytes
 unfolding setUpOf
-set-machine window registers program bytes a e z = ap (λ (x : Answer). x .machine) e ∙ rw (eq-eqb (setUpRefusal window registers program bytes) 0 z)
+set-core window registers program bytes a e z = ap (λ (x : Answer). x .core) e ∙ rw (eq-eqb (setUpRefusal window registers program bytes) 0 z)
 
 module _ (program memory schedule : List ℕ) (none : replayRefusal program memory schedule 156 ≡ 0) where
   abbrev facts : Unrefused program memory schedule 156
@@ -39,10 +39,10 @@ module _ (program memory schedule : List ℕ) (none : replayRefusal program memo
   fits = head-fits schedule (facts .head)
 
   pub ready : (window registers : ℕ) (a : Answer) → window ≡ windowIn schedule → registers ≡ registersIn schedule
-      → a ≡ setUpOf window registers (length program) (length memory) → Ready (a .machine) program memory schedule
+      → a ≡ setUpOf window registers (length program) (length memory) → Ready (a .core) program memory schedule
   ready window registers a w n e =
       record {
-        fresh = rw (← w, ← n) (set-machine window registers (length program) (length memory) a e (rw (w, n) (facts .set-up)));
+        fresh = rw (← w, ← n) (set-core window registers (length program) (length memory) a e (rw (w, n) (facts .set-up)));
         accepted = facts .set-up;
         fits = fits;
         chain = facts .chain;
@@ -73,8 +73,8 @@ module _ (program memory schedule : List ℕ) (none : replayRefusal program memo
   counts-few e bytes q = subst (λ (x : Played). (x .counts .committed ≤ 65_536) × (x .counts .accepted ≤ 65_536)) (sym q) (committed-few, accepted-few)
 
 -- the figures, put together from their parts
-pub figures-are : (p : Played) (e : Ended) (memory : List ℕ) (rate : ℕ) (report : Report) → playedBy e memory ≡ p → rate ≡ rateOf (e .counts .committed) (e .counts .accepted) → report ≡ reportOf (e .machine)
-    → (record { counts = e .counts; rate = rate; halt = e .machine .halt .cause; next = e .machine .next; registers = report .registers; number = 0 } ≡ figuresOf p) × (memory ≡ p .world .memory)
+pub figures-are : (p : Played) (e : Ended) (memory : List ℕ) (rate : ℕ) (report : Report) → playedBy e memory ≡ p → rate ≡ rateOf (e .counts .committed) (e .counts .accepted) → report ≡ reportOf (e .core)
+    → (record { counts = e .counts; rate = rate; halt = e .core .halt .cause; next = e .core .next; registers = report .registers; number = 0 } ≡ figuresOf p) × (memory ≡ p .world .memory)
 figures-are p e memory rate report q r s = (rw (← q, r, s), ap (λ (x : Played). x .world .memory) q)
 
 -- replay refused, and replay made

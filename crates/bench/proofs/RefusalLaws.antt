@@ -13,7 +13,7 @@ use Rattle.ranges.specs.Sizes.{setUpRefusal}
 use Rattle.formats.specs.Schedule.{scheduleFits, malformed, windowIn, registersIn, headRefusal}
 use Rattle.formats.specs.Chain.{scheduleRefusal}
 use Rattle.formats.proofs.HeadLaws.{at-least}
-use Rattle.machine.proofs.RefusalLaws.{passed, both-none}
+use Rattle.core.proofs.RefusalLaws.{passed, both-none}
 use Rattle.bench.specs.Replay.{replayRefusal}
 
 pub head-fits : (schedule : List ℕ) → headRefusal schedule ≡ 0 → scheduleFits (length schedule) ≡ true

@@ -7,7 +7,7 @@ use lib.ListN.{length, drop, replicate}
 use Rattle.isa.specs.Reads.{choose}
 use Rattle.reference.specs.Step.{when, first, lengthRefusal}
 use Rattle.ranges.specs.Sizes.{setUpRefusal}
-use Rattle.machine.specs.Report.{reportOf}
+use Rattle.core.specs.Report.{reportOf}
 use Rattle.formats.specs.Schedule.{windowIn, registersIn, headRefusal}
 use Rattle.formats.specs.Chain.{scheduleRefusal}
 use Rattle.formats.specs.Result.{rateOf, resultBytes}
@@ -32,9 +32,9 @@ figuresOf p =
     record {
       counts = p .counts;
       rate = rateOf (p .counts .committed) (p .counts .accepted);
-      halt = p .world .machine .halt .cause;
-      next = p .world .machine .next;
-      registers = reportOf (p .world .machine) .registers;
+      halt = p .world .core .halt .cause;
+      next = p .world .core .next;
+      registers = reportOf (p .world .core) .registers;
       number = 0;
     }
 

@@ -4,8 +4,8 @@ ghost use lib.ListN.{getD};
 ghost use Rattle.events.specs.Play.{playedOf};
 ghost use Rattle.bench.specs.Replay as Replay;
 use crate::Replayed;
+use core::Core;
 use events::Counts;
-use machine::Machine;
 use ranges::sizes;
 
 // the first refusal, before any event, or 0
@@ -39,19 +39,19 @@ fn figures(program: &[u8], data: &mut [u8], schedule: &[u8]) -> Replayed
 {
     let window = formats::window_in(schedule) as u32;
     let registers = formats::registers_in(schedule) as u32;
-    let set = Machine::set_up(window, registers, program.len(), data.len());
-    let fresh = set.machine;
+    let set = Core::set_up(window, registers, program.len(), data.len());
+    let fresh = set.core;
     let played = playing::play(fresh, program, data, schedule);
-    let machine = played.machine;
+    let core = played.core;
     let counts = played.counts;
-    let halt = machine.halt;
-    let report = machine.report();
+    let halt = core.halt;
+    let report = core.report();
     let values = report.registers;
     Replayed {
         counts,
         rate: formats::rate(counts.committed, counts.accepted),
         halt: halt.cause as u32,
-        next: machine.next,
+        next: core.next,
         registers: values,
         number: 0,
     }

@@ -1,5 +1,5 @@
 // Every physical register and every name is in exactly one place: in the pool, committed, or with one entry.
-use machine::Machine;
+use core::Core;
 use tables::entries;
 
 fn once_more(n: u8) -> u8 {
@@ -42,7 +42,7 @@ fn all_seen(table: &[u8], counts: &mut [u8]) {
     }
 }
 
-fn entries_seen(m: Machine, registers: &mut [u8], names: &mut [u8]) {
+fn entries_seen(m: Core, registers: &mut [u8], names: &mut [u8]) {
     let count = m.count as usize;
     let mut k: usize = 0;
     while k < 64 && k < count {
@@ -66,7 +66,7 @@ fn each_once(counts: &[u8], last: usize) -> bool {
 }
 
 // Whether every number is accounted for.
-pub fn holds(m: Machine) -> bool {
+pub fn holds(m: Core) -> bool {
     if m.count > 64 {
         return false;
     }

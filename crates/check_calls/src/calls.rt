@@ -1,13 +1,13 @@
 // One call, and which one to make.
 ghost use Prim.Native.Nat.{_<_};
 use crate::chance::draw;
+use core::Answer;
+use core::Core;
 use isa::Instruction;
-use machine::Answer;
-use machine::Machine;
 use reference::Fetching;
 use tables::Entry;
 use tables::entries;
-use window::Core;
+use window::Machine;
 
 pub struct Call {
     pub kind: u8,
@@ -23,29 +23,29 @@ pub const COMPLETE: u8 = 3;
 
 pub const COMMIT: u8 = 4;
 
-fn called(core: Core, program: &[u8], data: &mut [u8], c: Call) -> window::Answer {
+fn called(machine: Machine, program: &[u8], data: &mut [u8], c: Call) -> window::Answer {
     let kind = c.kind;
     match kind {
-        DECODE => core.decode(program, data, c.guess),
-        ISSUE => core.issue(program, data, c.position),
-        COMPLETE => core.complete(program, data, c.position),
-        _ => core.commit(program, data),
+        DECODE => machine.decode(program, data, c.guess),
+        ISSUE => machine.issue(program, data, c.position),
+        COMPLETE => machine.complete(program, data, c.position),
+        _ => machine.commit(program, data),
     }
 }
 
-pub fn made(m: Machine, program: &[u8], data: &mut [u8], c: Call) -> Answer {
-    let core = Core { machine: m };
-    let answer = called(core, program, data, c);
-    let after = answer.core;
-    let machine = after.machine;
+pub fn made(m: Core, program: &[u8], data: &mut [u8], c: Call) -> Answer {
+    let machine = Machine { core: m };
+    let answer = called(machine, program, data, c);
+    let after = answer.machine;
+    let core = after.core;
     Answer {
-        machine,
+        core,
         number: answer.number,
     }
 }
 
 // a call; with 0 and 1 another program's or other data's length is lent
-pub fn lent(m: Machine, program: &[u8], data: &mut [u8], c: Call, other: u32) -> Answer {
+pub fn lent(m: Core, program: &[u8], data: &mut [u8], c: Call, other: u32) -> Answer {
     let mut bytes = [0u8; 3];
     if other == 0 {
         return made(m, &bytes, data, c);
@@ -76,7 +76,7 @@ fn place(from: u32, k: usize, down: bool) -> usize
 }
 
 // a position whose entry has this status, the first from a start on and around; 64 where there is none
-fn position_with(m: Machine, start: u32, down: bool, wanted: u8) -> usize {
+fn position_with(m: Core, start: u32, down: bool, wanted: u8) -> usize {
     let count = m.count as usize;
     let mut k: usize = 0;
     while k < 64 {
@@ -91,7 +91,7 @@ fn position_with(m: Machine, start: u32, down: bool, wanted: u8) -> usize {
 }
 
 // mostly calls that are not refused: where the window is full seldom decode, where the oldest is not completed seldom commit
-fn kind(m: Machine, x: u32) -> u8 {
+fn kind(m: Core, x: u32) -> u8 {
     let s = m.setup;
     let oldest = m.entries[0];
     let full = m.count == s.window;
@@ -144,7 +144,7 @@ fn guess(program: &[u8], address: u32, registers: [u32; 32], x: u32) -> u32 {
 }
 
 // The call that document 01's further calls make on this machine.
-pub fn further(m: Machine) -> Call {
+pub fn further(m: Core) -> Call {
     let oldest = m.entries[0];
     let needed = match status(oldest) {
         0 => ISSUE,
@@ -159,7 +159,7 @@ pub fn further(m: Machine) -> Call {
 }
 
 // A call for the machine: mostly one that brings it on, sometimes any.
-pub fn chosen(m: Machine, program: &[u8], registers: [u32; 32], seed: u32) -> Call {
+pub fn chosen(m: Core, program: &[u8], registers: [u32; 32], seed: u32) -> Call {
     let kind = kind(m, draw(seed, 1));
     let x = draw(seed, 2);
     let wanted = if kind == ISSUE { 0 } else { 1 };

@@ -1,6 +1,6 @@
 // Machines compared with one another and with the in-order run.
 use crate::calls;
-use machine::Machine;
+use core::Core;
 use tables::Entry;
 use tables::Operand;
 
@@ -28,7 +28,7 @@ pub fn stepped(o: Ordered, program: &[u8], data: &mut [u8], further: bool) -> Or
 }
 
 // report, next address and halt as the in-order run has them
-pub fn agrees(m: Machine, o: Ordered) -> bool {
+pub fn agrees(m: Core, o: Ordered) -> bool {
     let report = m.report();
     let values = report.registers;
     let wanted = o.registers;
@@ -72,7 +72,7 @@ pub fn same_entry(a: Entry, b: Entry) -> bool {
         & (i_stop.cause == j_stop.cause)
 }
 
-fn same_entries(a: Machine, b: Machine) -> bool {
+fn same_entries(a: Core, b: Core) -> bool {
     let mut right = true;
     let mut k: usize = 0;
     while k < 64 {
@@ -84,7 +84,7 @@ fn same_entries(a: Machine, b: Machine) -> bool {
     right
 }
 
-fn same_values(a: Machine, b: Machine) -> bool {
+fn same_values(a: Core, b: Core) -> bool {
     let mut right = true;
     let mut k: usize = 0;
     while k < 96 {
@@ -95,7 +95,7 @@ fn same_values(a: Machine, b: Machine) -> bool {
 }
 
 // The same machine in every table.
-pub fn same(a: Machine, b: Machine) -> bool {
+pub fn same(a: Core, b: Core) -> bool {
     let h = a.halt;
     let i = b.halt;
     (a.count == b.count)

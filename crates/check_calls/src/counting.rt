@@ -1,7 +1,7 @@
 // What was seen, each kind at its place of a table of counts.
 use crate::calls;
 use crate::calls::Call;
-use machine::Machine;
+use core::Core;
 
 pub const LISTS: usize = 0;
 
@@ -56,7 +56,7 @@ fn left(before: u8, after: u8) -> u64 {
 }
 
 // a destination without a cause while no register was free
-fn is_steal(before: Machine, after: Machine, position: usize) -> bool {
+fn is_steal(before: Core, after: Core, position: usize) -> bool {
     if position < 64 {
         let e = after.entries[position];
         let stop = e.stop;
@@ -65,7 +65,7 @@ fn is_steal(before: Machine, after: Machine, position: usize) -> bool {
     false
 }
 
-fn completed(counts: &mut [u64], before: Machine, after: Machine, position: usize) {
+fn completed(counts: &mut [u64], before: Core, after: Core, position: usize) {
     let gone = left(before.count, after.count);
     more(counts, DROPPED, gone);
     expect(counts, WRONG, (gone == 0) & (before.fetch == after.fetch));
@@ -82,7 +82,7 @@ fn committed(counts: &mut [u64], before: u8, cause: u8) {
 }
 
 // A call that was made.
-pub fn told(counts: &mut [u64], before: Machine, after: Machine, c: Call, number: u8) {
+pub fn told(counts: &mut [u64], before: Core, after: Core, c: Call, number: u8) {
     more(counts, CALLS, 1);
     if number != 0 {
         more(counts, REFUSED + number as usize, 1);

@@ -3,9 +3,9 @@ use crate::calls;
 use crate::calls::Call;
 use crate::comparing;
 use crate::counting;
-use machine::Machine;
+use core::Core;
 
-fn damaged(m: Machine, k: u32) -> Machine {
+fn damaged(m: Core, k: u32) -> Core {
     let mut d = m;
     match k % 8 {
         0 => d.count = 65,
@@ -20,7 +20,7 @@ fn damaged(m: Machine, k: u32) -> Machine {
     d
 }
 
-pub fn tried(m: Machine, program: &[u8], data: &mut [u8], c: Call, k: u32, counts: &mut [u64]) {
+pub fn tried(m: Core, program: &[u8], data: &mut [u8], c: Call, k: u32, counts: &mut [u64]) {
     let d = damaged(m, k);
     let kind = c.kind;
     let position = c.position;
@@ -35,12 +35,12 @@ pub fn tried(m: Machine, program: &[u8], data: &mut [u8], c: Call, k: u32, count
             guess,
         },
     );
-    let machine = a.machine;
+    let core = a.core;
     let report = d.report();
     counting::told(
         counts,
         d,
-        machine,
+        core,
         Call {
             kind,
             position,
@@ -48,6 +48,6 @@ pub fn tried(m: Machine, program: &[u8], data: &mut [u8], c: Call, k: u32, count
         },
         a.number,
     );
-    let right = (a.number == 5) & (report.number == 5) & comparing::same(d, machine);
+    let right = (a.number == 5) & (report.number == 5) & comparing::same(d, core);
     counting::expect(counts, counting::DIFFERENCES, right);
 }

@@ -10,17 +10,17 @@ use crate::counting;
 use crate::damage;
 use crate::programs;
 use crate::resting;
-use machine::Machine;
+use core::Core;
 
 struct Run {
-    machine: Machine,
+    core: Core,
     ordered: Ordered,
 }
 
 // what is to hold after a call: a refused one changed nothing, and other lengths are refused by 6
 fn judged(
-    before: Machine,
-    after: Machine,
+    before: Core,
+    after: Core,
     o: Ordered,
     same_data: bool,
     c: Call,
@@ -47,10 +47,10 @@ fn called(
     other: u32,
     counts: &mut [u64],
 ) -> Run {
-    let before = r.machine;
+    let before = r.core;
     let o = r.ordered;
     let a = calls::lent(before, program, data, c, other);
-    let after = a.machine;
+    let after = a.core;
     let commits = (a.number == 0) & (c.kind == calls::COMMIT);
     let ordered = comparing::stepped(o, program, want, commits);
     let same_data = check::same(data, want);
@@ -65,7 +65,7 @@ fn called(
         counts,
     );
     Run {
-        machine: after,
+        core: after,
         ordered,
     }
 }
@@ -77,7 +77,7 @@ fn further(r: Run, program: &[u8], data: &mut [u8], want: &mut [u8], counts: &mu
     let mut kind = 0u8;
     let mut k = 0u64;
     while k < 4 && kind != calls::COMMIT {
-        let m = r.machine;
+        let m = r.core;
         let c = calls::further(m);
         kind = c.kind;
         r = called(r, program, data, want, c, 2, counts);
@@ -102,7 +102,7 @@ fn turn(
     counts: &mut [u64],
 ) -> Run {
     let pick = draw(seed, 0) % 96;
-    let m = r.machine;
+    let m = r.core;
     let o = r.ordered;
     let halted = o.cause != 0;
     if (pick < 2) & !halted {
@@ -136,7 +136,7 @@ fn turns(
     while left > 0 && going {
         seed = chance::next(seed);
         r = turn(r, program, data, want, seed, counts);
-        let m = r.machine;
+        let m = r.core;
         let halt = m.halt;
         going = through | (halt.cause == 0);
         left -= 1;
@@ -174,7 +174,7 @@ fn ended(
     seed: u32,
     counts: &mut [u64],
 ) -> Run {
-    let m = r.machine;
+    let m = r.core;
     let halt = m.halt;
     if halt.cause != 0 {
         return turns(r, program, data, want, seed, 5, true, counts);
@@ -183,14 +183,14 @@ fn ended(
 }
 
 fn fresh(w: u32, n: u32, program: usize, bytes: usize) -> Run {
-    let a = Machine::set_up(w, n, program, bytes);
-    let machine = a.machine;
+    let a = Core::set_up(w, n, program, bytes);
+    let core = a.core;
     let ordered = Ordered {
         registers: [0; 32],
         address: 0,
         cause: 0,
     };
-    Run { machine, ordered }
+    Run { core, ordered }
 }
 
 // a whole list

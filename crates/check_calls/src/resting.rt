@@ -1,11 +1,11 @@
 // What document 01 says of a machine between calls, whatever they were.
 use crate::comparing;
-use machine::Machine;
+use core::Core;
 use tables::Entry;
 use tables::entries;
 
 // "The general map's register is zero while valid is clear."
-fn map_rests(m: Machine) -> bool {
+fn map_rests(m: Core) -> bool {
     let mut right = true;
     let mut k: usize = 0;
     while k < 32 {
@@ -23,7 +23,7 @@ fn entry_rests(e: Entry, there: bool) -> bool {
     comparing::same_entry(e, entries::empty())
 }
 
-fn entries_rest(m: Machine) -> bool {
+fn entries_rest(m: Core) -> bool {
     let count = m.count as usize;
     let mut right = true;
     let mut k: usize = 0;
@@ -35,6 +35,6 @@ fn entries_rest(m: Machine) -> bool {
     right
 }
 
-pub fn rests(m: Machine) -> bool {
+pub fn rests(m: Core) -> bool {
     map_rests(m) & entries_rest(m)
 }

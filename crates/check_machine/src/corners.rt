@@ -3,8 +3,8 @@ use crate::damage;
 use crate::judging;
 use crate::judging::Tally;
 use crate::samples;
+use core::Core;
 use libc::STDOUT_FILENO;
-use machine::Machine;
 
 fn window_at(k: u32) -> u32 {
     match k {
@@ -25,18 +25,18 @@ fn registers_at(k: u32) -> u32 {
 }
 
 // the shortest program with the longest data, or the longest program with one data word
-fn fresh(k: u32) -> Machine {
+fn fresh(k: u32) -> Core {
     let w = window_at(k % 4);
     let n = registers_at(k / 4 % 4);
     let short = k % 2 == k / 4 % 2;
     let program: usize = if short { 4 } else { 16_384 };
     let bytes: usize = if short { 16_384 } else { 4 };
-    let answer = Machine::set_up(w, n, program, bytes);
-    answer.machine
+    let answer = Core::set_up(w, n, program, bytes);
+    answer.core
 }
 
 // 0 to 15 are fresh, 16 to 31 have a full window
-fn machine(k: u32) -> Machine {
+fn core(k: u32) -> Core {
     let m = fresh(k % 16);
     if k < 16 {
         return m;
@@ -48,7 +48,7 @@ fn every(kind: u8) -> Tally {
     let mut t = judging::none();
     let mut k = 0u32;
     while k < 32 {
-        t = damage::of_kind(kind, machine(k), t);
+        t = damage::of_kind(kind, core(k), t);
         k += 1;
     }
     t

@@ -3,14 +3,14 @@ use crate::entry_damage;
 use crate::judging::Tally;
 use crate::number_damage;
 use crate::table_damage;
-use machine::Machine;
+use core::Core;
 
 // the first kinds of damage to tables and to entries; those below are to numbers that stand in no table
 pub const TABLES: u8 = 16;
 
 pub const ENTRIES: u8 = 32;
 
-pub fn of_kind(kind: u8, m: Machine, t: Tally) -> Tally {
+pub fn of_kind(kind: u8, m: Core, t: Tally) -> Tally {
     if kind < TABLES {
         return number_damage::tried(kind, m, t);
     }
@@ -21,7 +21,7 @@ pub fn of_kind(kind: u8, m: Machine, t: Tally) -> Tally {
 }
 
 // the highest name, 31 + W
-pub fn names_of(m: Machine) -> u8 {
+pub fn names_of(m: Core) -> u8 {
     let s = m.setup;
     if s.window <= 64 { 31 + s.window } else { 0 }
 }

@@ -7,7 +7,7 @@ use crate::judging::Tally;
 use crate::samples;
 use crate::samples::Case;
 use crate::store_cases;
-use machine::Machine;
+use core::Core;
 use tables::Operand;
 
 pub const INSTRUCTIONS: u8 = 32;
@@ -164,7 +164,7 @@ fn cases(kind: u8) -> u32 {
     }
 }
 
-fn case(kind: u8, m: Machine, k: u32) -> Case {
+fn case(kind: u8, m: Core, k: u32) -> Case {
     let s = m.setup;
     match kind {
         INSTRUCTIONS => instruction_cases::case(k),
@@ -178,7 +178,7 @@ fn case(kind: u8, m: Machine, k: u32) -> Case {
 }
 
 // with the entry below the count, and with the count just below the entry
-fn at_place(m: Machine, at: u8, c: Case, kind: u8, t: Tally) -> Tally {
+fn at_place(m: Core, at: u8, c: Case, kind: u8, t: Tally) -> Tally {
     let e = c.entry;
     let changed = samples::with_entry(m, at as usize, e);
     if at >= m.count {
@@ -192,7 +192,7 @@ fn at_place(m: Machine, at: u8, c: Case, kind: u8, t: Tally) -> Tally {
 }
 
 // at the oldest place and at the last of the window
-fn at_ends(m: Machine, kind: u8, k: u32, t: Tally) -> Tally {
+fn at_ends(m: Core, kind: u8, k: u32, t: Tally) -> Tally {
     let s = m.setup;
     let t = at_place(m, 0, case(kind, m, k), kind, t);
     if s.window <= 1 {
@@ -201,7 +201,7 @@ fn at_ends(m: Machine, kind: u8, k: u32, t: Tally) -> Tally {
     at_place(m, s.window - 1, case(kind, m, k), kind, t)
 }
 
-pub fn tried(kind: u8, m: Machine, t: Tally) -> Tally {
+pub fn tried(kind: u8, m: Core, t: Tally) -> Tally {
     let last = cases(kind);
     let mut t = t;
     let mut k = 0u32;

@@ -1,7 +1,7 @@
 // Entries as a machine may hold them, and machines with such entries.
+use core::Core;
 use execution::Stop;
 use isa::Instruction;
-use machine::Machine;
 use tables::Entry;
 use tables::Operand;
 use tables::State;
@@ -151,7 +151,7 @@ fn sample(k: usize) -> Entry {
     }
 }
 
-pub fn with_entry(m: Machine, at: usize, e: Entry) -> Machine {
+pub fn with_entry(m: Core, at: usize, e: Entry) -> Core {
     let mut changed = m;
     if at < 64 {
         changed.entries[at] = e;
@@ -159,14 +159,14 @@ pub fn with_entry(m: Machine, at: usize, e: Entry) -> Machine {
     changed
 }
 
-pub fn with_count(m: Machine, count: u8) -> Machine {
+pub fn with_count(m: Core, count: u8) -> Core {
     let mut changed = m;
     changed.count = count;
     changed
 }
 
 // Entries of every kind in all 64 places; the window is full.
-pub fn filled(m: Machine) -> Machine {
+pub fn filled(m: Core) -> Core {
     let s = m.setup;
     let mut full = with_count(m, s.window);
     let mut k: usize = 0;

@@ -1,6 +1,6 @@
 // Set-ups over the corners of the four numbers.
 use crate::judging;
-use machine::Machine;
+use core::Core;
 use tables::Entry;
 use tables::Operand;
 use tables::State;
@@ -116,7 +116,7 @@ fn is_empty(e: Entry) -> bool {
         & (stop.cause == 0)
 }
 
-fn empty_at(m: Machine, k: usize) -> bool {
+fn empty_at(m: Core, k: usize) -> bool {
     if k < 64 {
         let e = m.entries[k];
         return is_empty(e);
@@ -133,7 +133,7 @@ fn rising(k: usize, last: usize) -> usize {
 }
 
 // the tables of names and registers at k, N and the names reaching to these
-fn tables_at(m: Machine, k: usize, last: usize, names: usize, own: usize) -> bool {
+fn tables_at(m: Core, k: usize, last: usize, names: usize, own: usize) -> bool {
     if k < 96 {
         return (m.physical[k] as usize == own)
             & (m.values[k] == 0)
@@ -143,7 +143,7 @@ fn tables_at(m: Machine, k: usize, last: usize, names: usize, own: usize) -> boo
     true
 }
 
-fn map_at(m: Machine, k: usize, own: usize) -> bool {
+fn map_at(m: Core, k: usize, own: usize) -> bool {
     if k < 32 {
         return (m.mapname[k] as usize == own)
             & (m.mapregister[k] as usize == own)
@@ -153,7 +153,7 @@ fn map_at(m: Machine, k: usize, own: usize) -> bool {
 }
 
 // all tables at k: fresh, or of zeros
-fn place(m: Machine, k: usize, w: u32, n: u32, fresh: bool) -> bool {
+fn place(m: Core, k: usize, w: u32, n: u32, fresh: bool) -> bool {
     let own = if fresh & (k < 32) { k } else { 0 };
     let last = if fresh { n as usize } else { 0 };
     let names = if fresh & (w <= 64) {
@@ -164,7 +164,7 @@ fn place(m: Machine, k: usize, w: u32, n: u32, fresh: bool) -> bool {
     empty_at(m, k) & map_at(m, k, own) & tables_at(m, k, last, names, own)
 }
 
-fn places(m: Machine, w: u32, n: u32, fresh: bool) -> bool {
+fn places(m: Core, w: u32, n: u32, fresh: bool) -> bool {
     let mut right = true;
     let mut k: usize = 0;
     while k < 96 {
@@ -175,7 +175,7 @@ fn places(m: Machine, w: u32, n: u32, fresh: bool) -> bool {
 }
 
 // what stands in no table
-fn numbers(m: Machine, w: u32, n: u32, program: usize, bytes: usize, head: u8) -> bool {
+fn numbers(m: Core, w: u32, n: u32, program: usize, bytes: usize, head: u8) -> bool {
     let s = m.setup;
     let halt = m.halt;
     (s.window as u32 == w)
@@ -191,7 +191,7 @@ fn numbers(m: Machine, w: u32, n: u32, program: usize, bytes: usize, head: u8) -
 }
 
 // a fresh machine passes, and reports zeros
-fn reports_zeros(m: Machine) -> bool {
+fn reports_zeros(m: Core) -> bool {
     let report = m.report();
     let values = report.registers;
     judging::passes(m) & vectors::same_registers(values, [0; 32])
@@ -200,8 +200,8 @@ fn reports_zeros(m: Machine) -> bool {
 // whether set-up answers as expected, with a fresh machine or one of zeros, which 5 refuses
 fn right(w: u32, n: u32, program: usize, bytes: usize) -> bool {
     let number = expected(w, n, program, bytes);
-    let answer = Machine::set_up(w, n, program, bytes);
-    let m = answer.machine;
+    let answer = Core::set_up(w, n, program, bytes);
+    let m = answer.core;
     if number != 0 {
         return (answer.number == number)
             & numbers(m, 0, 0, 0, 0, 0)

@@ -5,7 +5,7 @@ use crate::judging::Tally;
 use crate::judging::damaged;
 use crate::judging::ignored;
 use crate::judging::in_range;
-use machine::Machine;
+use core::Core;
 
 pub const REGISTER_LINKS: u8 = 16;
 
@@ -21,7 +21,7 @@ pub const MAP_VALID: u8 = 21;
 
 pub const VALUES: u8 = 22;
 
-fn with_link(m: Machine, kind: u8, at: usize, number: u8) -> Machine {
+fn with_link(m: Core, kind: u8, at: usize, number: u8) -> Core {
     let mut changed = m;
     if at < 96 {
         if kind == REGISTER_LINKS {
@@ -35,7 +35,7 @@ fn with_link(m: Machine, kind: u8, at: usize, number: u8) -> Machine {
     changed
 }
 
-fn with_map(m: Machine, kind: u8, at: usize, number: u8) -> Machine {
+fn with_map(m: Core, kind: u8, at: usize, number: u8) -> Core {
     let mut changed = m;
     if at < 32 {
         if kind == MAP_NAMES {
@@ -47,7 +47,7 @@ fn with_map(m: Machine, kind: u8, at: usize, number: u8) -> Machine {
     changed
 }
 
-fn with_valid(m: Machine, at: usize, valid: bool) -> Machine {
+fn with_valid(m: Core, at: usize, valid: bool) -> Core {
     let mut changed = m;
     if at < 32 {
         changed.mapvalid[at] = valid;
@@ -55,7 +55,7 @@ fn with_valid(m: Machine, at: usize, valid: bool) -> Machine {
     changed
 }
 
-fn with_value(m: Machine, at: usize, value: u32) -> Machine {
+fn with_value(m: Core, at: usize, value: u32) -> Core {
     let mut changed = m;
     if at < 96 {
         changed.values[at] = value;
@@ -64,7 +64,7 @@ fn with_value(m: Machine, at: usize, value: u32) -> Machine {
 }
 
 // what the numbers of a table must not exceed: names in the chain of names and in the general map's names
-fn limit_of(m: Machine, kind: u8) -> u8 {
+fn limit_of(m: Core, kind: u8) -> u8 {
     let s = m.setup;
     if (kind == NAME_LINKS) | (kind == MAP_NAMES) {
         return names_of(m);
@@ -74,7 +74,7 @@ fn limit_of(m: Machine, kind: u8) -> u8 {
 
 // the last place that is looked at: the chain of registers has one for each register, the chain of names and the
 // physical map one for each name
-fn last_of(m: Machine, kind: u8) -> usize {
+fn last_of(m: Core, kind: u8) -> usize {
     let s = m.setup;
     if kind == REGISTER_LINKS {
         return s.registers as usize;
@@ -83,7 +83,7 @@ fn last_of(m: Machine, kind: u8) -> usize {
 }
 
 // a number at its limit, one above it, and 255
-fn links(m: Machine, kind: u8, at: usize, t: Tally) -> Tally {
+fn links(m: Core, kind: u8, at: usize, t: Tally) -> Tally {
     let limit = limit_of(m, kind);
     let seen = (1 <= at) & (at <= last_of(m, kind));
     let t = in_range(t, with_link(m, kind, at, limit));
@@ -92,7 +92,7 @@ fn links(m: Machine, kind: u8, at: usize, t: Tally) -> Tally {
 }
 
 // the same, also while the valid bit is clear
-fn maps(m: Machine, kind: u8, at: usize, t: Tally) -> Tally {
+fn maps(m: Core, kind: u8, at: usize, t: Tally) -> Tally {
     if at >= 32 {
         return t;
     }
@@ -106,14 +106,14 @@ fn maps(m: Machine, kind: u8, at: usize, t: Tally) -> Tally {
     damaged(t, with_map(invalid, kind, at, 255), at != 0)
 }
 
-fn valid_bits(m: Machine, at: usize, t: Tally) -> Tally {
+fn valid_bits(m: Core, at: usize, t: Tally) -> Tally {
     if at >= 32 {
         return t;
     }
     ignored(t, with_valid(m, at, !m.mapvalid[at]))
 }
 
-fn place(kind: u8, m: Machine, at: usize, t: Tally) -> Tally {
+fn place(kind: u8, m: Core, at: usize, t: Tally) -> Tally {
     match kind {
         MAP_NAMES => maps(m, kind, at, t),
         MAP_REGISTERS => maps(m, kind, at, t),
@@ -123,7 +123,7 @@ fn place(kind: u8, m: Machine, at: usize, t: Tally) -> Tally {
     }
 }
 
-pub fn tried(kind: u8, m: Machine, t: Tally) -> Tally {
+pub fn tried(kind: u8, m: Core, t: Tally) -> Tally {
     let mut t = t;
     let mut at: usize = 0;
     while at < 96 {

@@ -14,12 +14,12 @@ use Rattle.tables.specs.Table.{lookUp, storeUnder}
 use Rattle.tables.specs.FreeList.{freedHead, freedLink}
 use Rattle.tables.specs.Entry.{emptyEntry, isCompleted}
 use Rattle.tables.specs.declared.Entry.{Entry}
-use Rattle.machine.specs.declared.Machine.{Machine}
-use Rattle.machine.specs.Call.{halted, noEntry, lentRefusal}
-use Rattle.machine.specs.Changes.{entryAt}
-use Rattle.machine.specs.Setters.{withCount, withEntries, withPhysical, withFreeRegisters, withFreeNames, withNext, withHalt}
+use Rattle.core.specs.declared.Core.{Core}
+use Rattle.core.specs.Call.{halted, noEntry, lentRefusal}
+use Rattle.core.specs.Changes.{entryAt}
+use Rattle.core.specs.Setters.{withCount, withEntries, withPhysical, withFreeRegisters, withFreeNames, withNext, withHalt}
 use Rattle.committing.specs.Commit.{commitRefusal, haltedBy, moveDown, retired, stoppedWith, commitBy, commitWithin, commitOf}
-use Rattle.machine.proofs.RefusalLaws.{passed, own-next}
+use Rattle.core.proofs.RefusalLaws.{passed, own-next}
 
 -- the first n elements are those that stood one place up
 unfoldable pub shifted : {A : Type 0} → ℕ → List A → List A
@@ -59,25 +59,25 @@ shift-step n start entries l h =
     ∙ ap (λ (j : ℕ). shifted j start) (sym (add-one n))
 
 -- the same on the machine
-pub shift-turn : (m k : Machine) (n : ℕ) → n + 1 < length (m .entries) → k ≡ withEntries (shifted n (m .entries)) m
+pub shift-turn : (m k : Core) (n : ℕ) → n + 1 < length (m .entries) → k ≡ withEntries (shifted n (m .entries)) m
     → withEntries (set (k .entries) n (getD (k .entries) (n + 1) emptyEntry)) k ≡ withEntries (shifted (n + 1) (m .entries)) m
 shift-turn m k n l h =
     ap (withEntries (set (k .entries) n (getD (k .entries) (n + 1) emptyEntry))) h
-    ∙ ap (λ (entries : List Entry). withEntries entries m) (shift-step n (m .entries) (k .entries) l (ap (λ (x : Machine). x .entries) h))
+    ∙ ap (λ (entries : List Entry). withEntries entries m) (shift-step n (m .entries) (k .entries) l (ap (λ (x : Core). x .entries) h))
 
 -- and its end
-pub shift-done : (m k : Machine) (last : ℕ) (empty : Entry) → 0 < m .count → last ≡ m .count - 1 → m .count ≤ length (m .entries) → k ≡ withEntries (shifted last (m .entries)) m → empty ≡ emptyEntry
+pub shift-done : (m k : Core) (last : ℕ) (empty : Entry) → 0 < m .count → last ≡ m .count - 1 → m .count ≤ length (m .entries) → k ≡ withEntries (shifted last (m .entries)) m → empty ≡ emptyEntry
     → withEntries (set (k .entries) last empty) k ≡ withEntries (moveDown (m .count) (m .entries)) m
 unfolding moveDown
 shift-done m k last empty some e l h z =
     let n : suc last ≡ m .count = omega arith in
     ap (λ (x : Entry). withEntries (set (k .entries) last x) k) z
-    ∙ ap (λ (x : Machine). withEntries (set (x .entries) last emptyEntry) x) h
+    ∙ ap (λ (x : Core). withEntries (set (x .entries) last emptyEntry) x) h
     ∙ ap (λ (entries : List Entry). withEntries entries m)
     (shifted-all emptyEntry last (m .entries) (omega arith) ∙ ap (λ (j : ℕ). drop 1 (take j (m .entries)) ++ emptyEntry ∷ drop j (m .entries)) n)
 
 -- the refusals, by the tests
-module _ (m : Machine) where
+module _ (m : Core) where
   pub refused-halted : halted m ≡ true → 10 ≡ commitRefusal m
   unfolding commitRefusal first
   refused-halted h = rw h
@@ -95,14 +95,14 @@ module _ (m : Machine) where
   not-refused h n s = rw (h, n, s)
 
 -- a commit that is not refused has an entry
-pub has-entry : (m : Machine) → commitRefusal m ≡ 0 → 0 < m .count
+pub has-entry : (m : Core) → commitRefusal m ≡ 0 → 0 < m .count
 unfolding commitRefusal
 has-entry m z =
     let rest = when (not (isCompleted (entryAt m 0 .state))) 13 ∷ [] in
     leb-false (m .count) 0 (passed (noEntry m 0) 12 rest refl (passed (halted m) 10 (when (noEntry m 0) 12 ∷ rest) refl z .1) .0)
 
 -- the oldest entry leaves
-pub retired-is : (m k : Machine) (register registerhead namehead : ℕ) (registerlink physical namelink : List ℕ)
+pub retired-is : (m k : Core) (register registerhead namehead : ℕ) (registerlink physical namelink : List ℕ)
     → let e : Entry = entryAt m 0 in
     register ≡ lookUp (m .physical) (e .previous)
     → registerhead ≡ freedHead (m .registerhead) register
@@ -116,25 +116,25 @@ unfolding retired
 retired-is m k register registerhead namehead registerlink physical namelink a b c d f g h = rw (h, b, c, a, d, f, g)
 
 -- the machine halts
-pub halted-is : (why : Stop) (m k : Machine) → k ≡ m → withHalt why k ≡ haltedBy why m
+pub halted-is : (why : Stop) (m k : Core) → k ≡ m → withHalt why k ≡ haltedBy why m
 unfolding haltedBy
 halted-is why m k h = rw h
 
 -- what commit answers, in each of the ways
-module _ (memory : List ℕ) (m : Machine) (refusal : ℕ) where
-  pub commit-refused : (number : ℕ) → number ≡ refusal → (number ≡ 0 → ⊥) → commitBy refusal memory m ≡ record { answer = record { machine = m; number = number }; memory = memory }
+module _ (memory : List ℕ) (m : Core) (refusal : ℕ) where
+  pub commit-refused : (number : ℕ) → number ≡ refusal → (number ≡ 0 → ⊥) → commitBy refusal memory m ≡ record { answer = record { core = m; number = number }; memory = memory }
   commit-refused number e h = rw (e, ne-eqb refusal 0 (λ z. h (e ∙ z)))
 
   module _ (z : refusal ≡ 0) where
-    pub commit-halts : (k : Machine) → (entryAt m 0 .stop .cause ≡ 0 → ⊥) → k ≡ stoppedWith (entryAt m 0 .stop) m
-        → commitBy refusal memory m ≡ record { answer = record { machine = k; number = 0 }; memory = memory }
+    pub commit-halts : (k : Core) → (entryAt m 0 .stop .cause ≡ 0 → ⊥) → k ≡ stoppedWith (entryAt m 0 .stop) m
+        → commitBy refusal memory m ≡ record { answer = record { core = k; number = 0 }; memory = memory }
     commit-halts k h e = rw (eq-eqb refusal 0 z, ne-eqb (entryAt m 0 .stop .cause) 0 h, e)
 
-    pub commit-retires : (k : Machine) (written : List ℕ) → entryAt m 0 .stop .cause ≡ 0 → k ≡ retired m
+    pub commit-retires : (k : Core) (written : List ℕ) → entryAt m 0 .stop .cause ≡ 0 → k ≡ retired m
         → written ≡ stored (entryAt m 0 .instruction) (entryAt m 0 .first) (entryAt m 0 .second) memory
-        → commitBy refusal memory m ≡ record { answer = record { machine = k; number = 0 }; memory = written }
+        → commitBy refusal memory m ≡ record { answer = record { core = k; number = 0 }; memory = written }
     commit-retires k written h e f = rw (eq-eqb refusal 0 z, eq-eqb (entryAt m 0 .stop .cause) 0 h, e, f)
 
-pub commit-lent : (program memory : List ℕ) (m : Machine) → lentRefusal m program memory ≡ 0 → commitOf program memory m ≡ commitWithin memory m
+pub commit-lent : (program memory : List ℕ) (m : Core) → lentRefusal m program memory ≡ 0 → commitOf program memory m ≡ commitWithin memory m
 unfolding commitWithin commitOf
 commit-lent program memory m e = ap (λ (n : ℕ). commitBy n memory m) (sym (own-next (lentRefusal m program memory) (commitRefusal m) e))

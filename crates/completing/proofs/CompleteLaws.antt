@@ -12,18 +12,18 @@ use Rattle.tables.specs.Table.{lookUp, storeUnder}
 use Rattle.tables.specs.FreeList.{takenHead, takenLink}
 use Rattle.tables.specs.Entry.{isIssued, stoppedEntry, completedEntry, predictedEntry, wakeEntry, held}
 use Rattle.tables.specs.declared.Entry.{Entry}
-use Rattle.machine.specs.declared.Machine.{Machine}
-use Rattle.machine.specs.Call.{halted, noEntry, lentRefusal, answered}
-use Rattle.machine.specs.Changes.{entryAt, place, changeAll}
-use Rattle.machine.specs.Setters.{withMap, withPhysical, withValues, withFreeRegisters, withFetch}
-use Rattle.machine.specs.Drop.{dropTo}
+use Rattle.core.specs.declared.Core.{Core}
+use Rattle.core.specs.Call.{halted, noEntry, lentRefusal, answered}
+use Rattle.core.specs.Changes.{entryAt, place, changeAll}
+use Rattle.core.specs.Setters.{withMap, withPhysical, withValues, withFreeRegisters, withFetch}
+use Rattle.core.specs.Drop.{dropTo}
 use Rattle.completing.specs.Complete.{needsRegister, noneFree, completeRefusal, registerFor, suppliedFor, learned, registered, refetched, redirected, finished, completed, completeWithin, completeOf}
 use Rattle.stealing.specs.Steal.{victimOf, noVictim, robbed}
-use Rattle.machine.proofs.RefusalLaws.{passed, own-next}
+use Rattle.core.proofs.RefusalLaws.{passed, own-next}
 use Rattle.stealing.proofs.StealLaws.{robbed-count}
 
 -- the entry gets its register
-pub learned-is : (m : Machine) (position register result : ℕ) (done : Entry) (shown following : ℕ) (mapregister physical values registerlink : List ℕ) (mapvalid : List Bool)
+pub learned-is : (m : Core) (position register result : ℕ) (done : Entry) (shown following : ℕ) (mapregister physical values registerlink : List ℕ) (mapvalid : List Bool)
     → let e : Entry = entryAt m position in
     done ≡ completedEntry result e
     → shown ≡ lookUp (m .mapname) (e .destination)
@@ -39,12 +39,12 @@ pub learned-is : (m : Machine) (position register result : ℕ) (done : Entry) (
 unfolding learned
 learned-is m position register result done shown following mapregister physical values registerlink mapvalid a b c d f g h i = rw (a, c, d, b, f, g, h, i)
 
-pub learned-count : (position register result : ℕ) (m : Machine) → learned position register result m .count ≡ m .count
+pub learned-count : (position register result : ℕ) (m : Core) → learned position register result m .count ≡ m .count
 unfolding learned
 learned-count position register result m = refl
 
 -- a register for the result, in each of the ways
-module _ (position result : ℕ) (m : Machine) where
+module _ (position result : ℕ) (m : Core) where
   abbrev d : ℕ
   d = entryAt m position .destination
 
@@ -69,7 +69,7 @@ module _ (position result : ℕ) (m : Machine) where
       at false = supplied-count (eqb (m .registerhead) 0)
 
 -- where the prediction was right, and where it was not
-module _ (position next : ℕ) (m : Machine) where
+module _ (position next : ℕ) (m : Core) where
   pub rightly-predicted : next ≡ entryAt m position .predicted → m ≡ redirected position next m
   unfolding redirected
   rightly-predicted e = rw (eq-eqb next (entryAt m position .predicted) e)
@@ -78,13 +78,13 @@ module _ (position next : ℕ) (m : Machine) where
   unfolding redirected
   wrongly-predicted h = rw (ne-eqb next (entryAt m position .predicted) h)
 
-pub refetched-is : (position next : ℕ) (m k : Machine) (mended : Entry) → k ≡ m → mended ≡ predictedEntry next (entryAt k position)
+pub refetched-is : (position next : ℕ) (m k : Core) (mended : Entry) → k ≡ m → mended ≡ predictedEntry next (entryAt k position)
     → withFetch next (place position mended k) ≡ refetched position next m
 unfolding refetched
 refetched-is position next m k mended h e = rw (e, h)
 
 -- with a cause, and without
-module _ (position : ℕ) (o : Outcome) (m : Machine) where
+module _ (position : ℕ) (o : Outcome) (m : Core) where
   pub finish-stops : (o .stop .cause ≡ 0 → ⊥) → place position (stoppedEntry (o .stop) (entryAt m position)) m ≡ finished position o m
   finish-stops h = rw (ne-eqb (o .stop .cause) 0 h)
 
@@ -92,7 +92,7 @@ module _ (position : ℕ) (o : Outcome) (m : Machine) where
   finish-goes h = rw (eq-eqb (o .stop .cause) 0 h)
 
 -- the refusals, by the tests
-module _ (position : ℕ) (m : Machine) where
+module _ (position : ℕ) (m : Core) where
   pub refused-halted : halted m ≡ true → 10 ≡ completeRefusal position m
   unfolding completeRefusal first
   refused-halted h = rw h
@@ -131,12 +131,12 @@ supply d cause head b e = at (eqb d 0) (eqb cause 0) (eqb head 0) b e
     at false false z b e = ap not e
 
 -- a completion that is not refused has an entry
-pub has-entry : (position : ℕ) (m : Machine) → completeRefusal position m ≡ 0 → position < m .count
+pub has-entry : (position : ℕ) (m : Core) → completeRefusal position m ≡ 0 → position < m .count
 unfolding completeRefusal
 has-entry position m z =
     let rest = when (not (isIssued (entryAt m position .state))) 13 ∷ when (needsRegister m position && noneFree m && noVictim m position) 16 ∷ [] in
     leb-false (m .count) position (passed (noEntry m position) 12 rest refl (passed (halted m) 10 (when (noEntry m position) 12 ∷ rest) refl z .1) .0)
 
-pub complete-lent : (program memory : List ℕ) (position : ℕ) (m : Machine) → lentRefusal m program memory ≡ 0 → completeWithin position m ≡ completeOf program memory position m
+pub complete-lent : (program memory : List ℕ) (position : ℕ) (m : Core) → lentRefusal m program memory ≡ 0 → completeWithin position m ≡ completeOf program memory position m
 unfolding completeWithin completeOf
 complete-lent program memory position m e = ap (λ (n : ℕ). answered m n (completed position m)) (own-next (lentRefusal m program memory) (completeRefusal position m) e)

@@ -12,23 +12,23 @@ use Rattle.execution.specs.Roles.{causeAtOnce}
 use Rattle.reference.specs.Step.{when, first}
 use Rattle.tables.specs.Table.{lookUp, storeUnder}
 use Rattle.tables.specs.declared.Entry.{Entry}
-use Rattle.machine.specs.declared.Machine.{Machine}
-use Rattle.machine.specs.Setters.{withMap, withFreeNames}
-use Rattle.machine.specs.Call.{halted, lentRefusal, answered}
+use Rattle.core.specs.declared.Core.{Core}
+use Rattle.core.specs.Setters.{withMap, withFreeNames}
+use Rattle.core.specs.Call.{halted, lentRefusal, answered}
 use Rattle.decoding.specs.Decode.{decodeRefusal, endedEntry, startedEntry, entryFor, renamed, appended, enter, decoded, decodeWithin, decodeOf}
-use Rattle.machine.proofs.RefusalLaws.{passed, own-next}
+use Rattle.core.proofs.RefusalLaws.{passed, own-next}
 
-pub refusal-is : (m : Machine) → first (when (not (eqb (m .halt .cause) 0)) 10 ∷ when (leb (m .setup .window) (m .count)) 11 ∷ []) ≡ decodeRefusal m
+pub refusal-is : (m : Core) → first (when (not (eqb (m .halt .cause) 0)) 10 ∷ when (leb (m .setup .window) (m .count)) 11 ∷ []) ≡ decodeRefusal m
 unfolding decodeRefusal
 refusal-is m = refl
 
 -- a decode that is not refused has a place
-pub has-place : (m : Machine) → decodeRefusal m ≡ 0 → m .count < m .setup .window
+pub has-place : (m : Core) → decodeRefusal m ≡ 0 → m .count < m .setup .window
 unfolding decodeRefusal
 has-place m e = leb-false (m .setup .window) (m .count) (passed (leb (m .setup .window) (m .count)) 11 [] refl (passed (halted m) 10 (when (leb (m .setup .window) (m .count)) 11 ∷ []) refl e .1) .0)
 
 -- the entry, by what the program has
-module _ (m : Machine) (f : FetchNumbers) (guess : ℕ) where
+module _ (m : Core) (f : FetchNumbers) (guess : ℕ) where
   pub entry-none : (cause : ℕ) → noInstruction cause ≡ f → (cause ≡ 0 → ⊥) → endedEntry (m .fetch) none cause ≡ entryFor m f guess
   entry-none cause e h = rw (← e, ne-eqb cause 0 h)
 
@@ -39,7 +39,7 @@ module _ (m : Machine) (f : FetchNumbers) (guess : ℕ) where
   entry-waits i e h = rw (← e, eq-eqb (causeAtOnce i) 0 h)
 
 -- a destination takes its name
-pub renamed-is : (m : Machine) (d name : ℕ) (mapname mapregister namelink : List ℕ) (mapvalid : List Bool) (following namehead : ℕ)
+pub renamed-is : (m : Core) (d name : ℕ) (mapname mapregister namelink : List ℕ) (mapvalid : List Bool) (following namehead : ℕ)
     → mapname ≡ storeUnder (m .mapname) d name
     → mapregister ≡ storeUnder (m .mapregister) d 0
     → mapvalid ≡ storeUnder (m .mapvalid) d false
@@ -50,10 +50,10 @@ pub renamed-is : (m : Machine) (d name : ℕ) (mapname mapregister namelink : Li
 renamed-is m d name mapname mapregister namelink mapvalid following namehead a b c e f g = rw (a, b, c, f, e, g)
 
 -- an entry enters
-pub entered : (m r : Machine) (e : Entry) → r ≡ renamed (e .destination) (e .name) m → appended e r ≡ enter e m
+pub entered : (m r : Core) (e : Entry) → r ≡ renamed (e .destination) (e .name) m → appended e r ≡ enter e m
 unfolding enter
 entered m r e h = ap (appended e) h
 
-pub decode-lent : (program memory : List ℕ) (guess : ℕ) (m : Machine) → lentRefusal m program memory ≡ 0 → decodeWithin program guess m ≡ decodeOf program memory guess m
+pub decode-lent : (program memory : List ℕ) (guess : ℕ) (m : Core) → lentRefusal m program memory ≡ 0 → decodeWithin program guess m ≡ decodeOf program memory guess m
 unfolding decodeWithin decodeOf
 decode-lent program memory guess m e = ap (λ (n : ℕ). answered m n (decoded program guess m)) (own-next (lentRefusal m program memory) (decodeRefusal m) e)

@@ -16,14 +16,14 @@ use Rattle.tables.specs.declared.Operand.{Operand}
 use Rattle.tables.specs.declared.Operand.the-variants.{Zero}
 use Rattle.tables.specs.declared.State.the-variants.{Waits, Completed}
 use Rattle.tables.specs.declared.Entry.{Entry}
-use Rattle.machine.specs.Setters.{withCount, withFreeNames, withFetch}
-use Rattle.machine.specs.Changes.{place, mapTo}
-use Rattle.machine.specs.Call.{halted, lentRefusal, inTurn, answered}
-use Rattle.machine.specs.declared.Machine.{Machine}
-use Rattle.machine.specs.declared.Answer.{Answer}
+use Rattle.core.specs.Setters.{withCount, withFreeNames, withFetch}
+use Rattle.core.specs.Changes.{place, mapTo}
+use Rattle.core.specs.Call.{halted, lentRefusal, inTurn, answered}
+use Rattle.core.specs.declared.Core.{Core}
+use Rattle.core.specs.declared.Answer.{Answer}
 
 -- 10 halted; 11 window full
-unfoldable pub decodeRefusal : Machine → ℕ
+unfoldable pub decodeRefusal : Core → ℕ
 decodeRefusal m = first (when (halted m) 10 ∷ when (leb (m .setup .window) (m .count)) 11 ∷ [])
 
 -- "where that reading gives no instruction, or gives ECALL or EBREAK, the entry enters completed with cause 4, 1, 2 or 3": the cause, 0 for all others
@@ -50,11 +50,11 @@ endedEntry address i cause =
     }
 
 -- "operands come from the general map (ready if valid)"
-abbrev pub operandOn : Machine → ℕ → Operand
+abbrev pub operandOn : Core → ℕ → Operand
 operandOn m r = shownOperand r (lookUp (m .mapname) r) (lookUp (m .mapregister) r) (lookValid (m .mapvalid) r)
 
 -- "then the destination takes a name, the old name is kept, …; the entry waits"
-abbrev pub nameFor : Machine → ℕ → ℕ
+abbrev pub nameFor : Core → ℕ → ℕ
 nameFor m d = choose (eqb d 0) 0 (m .namehead)
 
 abbrev pub waitingFor : Instruction → ℕ → ℕ → Operand → Operand → ℕ → ℕ → Entry
@@ -75,33 +75,33 @@ waitingFor i address predicted left right name previous =
       stop = stop 0;
     }
 
-abbrev pub startedEntry : Machine → Instruction → ℕ → Entry
+abbrev pub startedEntry : Core → Instruction → ℕ → Entry
 startedEntry m i guess =
     waitingFor i (m .fetch) (predictedNext i (m .fetch) guess) (operandOn m (firstSource i)) (operandOn m (secondSource i)) (nameFor m (destination i))
     (lookUp (m .mapname) (destination i))
 
 -- the entry that decode enters
-abbrev pub entryFor : Machine → FetchNumbers → ℕ → Entry
+abbrev pub entryFor : Core → FetchNumbers → ℕ → Entry
 entryFor m f guess = choose (eqb (enteringCause f) 0) (startedEntry m (f .fields) guess) (endedEntry (m .fetch) (f .fields) (enteringCause f))
 
 -- the general map shows a name under its destination, "valid is cleared"; the pool of names is without its head where there is a destination
-abbrev pub renamed : ℕ → ℕ → Machine → Machine
+abbrev pub renamed : ℕ → ℕ → Core → Core
 renamed d name m =
     withFreeNames (choose (eqb d 0) (m .namehead) (takenHead (m .namelink) (m .namehead))) (takenLink (m .namelink) name) (mapTo d name 0 false m)
 
 -- an entry enters; "Fetch goes there"
-abbrev pub appended : Entry → Machine → Machine
+abbrev pub appended : Entry → Core → Core
 appended e m = withFetch (e .predicted) (withCount (suc (m .count)) (place (m .count) e m))
 
-unfoldable pub enter : Entry → Machine → Machine
+unfoldable pub enter : Entry → Core → Core
 enter e m = appended e (renamed (e .destination) (e .name) m)
 
-abbrev pub decoded : List ℕ → ℕ → Machine → Machine
+abbrev pub decoded : List ℕ → ℕ → Core → Core
 decoded program guess m = enter (entryFor m (fetchAt program (m .fetch)) guess) m
 
 -- decode, where 5 and 6 do not apply
-unfoldable pub decodeWithin : List ℕ → ℕ → Machine → Answer
+unfoldable pub decodeWithin : List ℕ → ℕ → Core → Answer
 decodeWithin program guess m = answered m (decodeRefusal m) (decoded program guess m)
 
-unfoldable pub decodeOf : List ℕ → List ℕ → ℕ → Machine → Answer
+unfoldable pub decodeOf : List ℕ → List ℕ → ℕ → Core → Answer
 decodeOf program memory guess m = answered m (inTurn (lentRefusal m program memory) (decodeRefusal m)) (decoded program guess m)

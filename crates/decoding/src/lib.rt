@@ -10,11 +10,11 @@ ghost use Rattle.reference.specs.Step.{when, first};
 ghost use Rattle.reference.specs.Fetch.{fetchAt, fetchNumbers};
 ghost use Rattle.decoding.specs.Decode as Decode;
 ghost use Rattle.decoding.specs.Seen.{seen};
+use core::Answer;
+use core::Core;
 use execution::Stop;
 use execution::roles;
 use isa::Instruction;
-use machine::Answer;
-use machine::Machine;
 use reference::Fetching;
 use tables::Entry;
 use tables::Operand;
@@ -176,24 +176,24 @@ pub fn entry_for<'a>(
 }
 
 // the destination's name is shown, not valid, and the name is taken from the pool
-fn renamed(mut machine: Machine, destination: u8, name: u8) -> Machine
-    ensures { λ r. ⌜ r ≡ Decode.renamed destination name machine ⌝ }
+fn renamed(mut core: Core, destination: u8, name: u8) -> Core
+    ensures { λ r. ⌜ r ≡ Decode.renamed destination name core ⌝ }
 {
-    maps::map_to(&mut machine.mapname, destination, name);
-    maps::map_to(&mut machine.mapregister, destination, 0);
-    maps::set_valid(&mut machine.mapvalid, destination, false);
-    let head = machine.namehead;
-    let following = maps::look_up(&machine.namelink, head);
-    machine.namehead = head_after(destination, head, following);
-    maps::store_under(&mut machine.namelink, name, 0);
-    machine
+    maps::map_to(&mut core.mapname, destination, name);
+    maps::map_to(&mut core.mapregister, destination, 0);
+    maps::set_valid(&mut core.mapvalid, destination, false);
+    let head = core.namehead;
+    let following = maps::look_up(&core.namelink, head);
+    core.namehead = head_after(destination, head, following);
+    maps::store_under(&mut core.namelink, name, 0);
+    core
 }
 
-fn enter(machine: Machine, e: Entry) -> Machine
-    requires { ⌜ machine .count < 64 ⌝ }
-    ensures { λ r. ⌜ r ≡ Decode.enter e machine ⌝ }
+fn enter(core: Core, e: Entry) -> Core
+    requires { ⌜ core .count < 64 ⌝ }
+    ensures { λ r. ⌜ r ≡ Decode.enter e core ⌝ }
 {
-    let mut entered = renamed(machine, e.destination, e.name);
+    let mut entered = renamed(core, e.destination, e.name);
     let at = entered.count as usize;
     entered.entries[at] = e;
     entered.count += 1;
@@ -202,28 +202,28 @@ fn enter(machine: Machine, e: Entry) -> Machine
 }
 
 // Decode, where 5 and 6 do not apply.
-pub fn decode_within(machine: Machine, program: &[u8], guess: u32) -> Answer
-    requires { ⌜ machine .setup .window ≤ 64 ⌝ }
-    ensures { λ r. ⌜ r ≡ Decode.decodeWithin (now (program .entry)) guess machine ⌝ }
+pub fn decode_within(core: Core, program: &[u8], guess: u32) -> Answer
+    requires { ⌜ core .setup .window ≤ 64 ⌝ }
+    ensures { λ r. ⌜ r ≡ Decode.decodeWithin (now (program .entry)) guess core ⌝ }
 {
-    let halt = machine.halt;
-    let s = machine.setup;
-    let number = refusal(halt, s.window, machine.count);
+    let halt = core.halt;
+    let s = core.setup;
+    let number = refusal(halt, s.window, core.count);
     if number != 0 {
-        return Answer { machine, number };
+        return Answer { core, number };
     }
     let e = entry_for(
-        &machine.mapname,
-        &machine.mapregister,
-        &machine.mapvalid,
-        machine.namehead,
-        machine.fetch,
+        &core.mapname,
+        &core.mapregister,
+        &core.mapvalid,
+        core.namehead,
+        core.fetch,
         program,
         guess,
     );
-    let next = enter(machine, e);
+    let next = enter(core, e);
     Answer {
-        machine: next,
+        core: next,
         number: 0,
     }
 }

@@ -4,9 +4,9 @@ use mathlib.Core.Path.{_≡_, sym, ap, _∙_}
 use mathlib.Core.List.{List}
 use borrow.Author.Tests.{eq-eqb, ne-eqb}
 use Rattle.formats.specs.declared.Record.{Record}
-use Rattle.machine.specs.Call.{lentRefusal}
-use Rattle.machine.specs.declared.Machine.{Machine}
-use Rattle.machine.specs.declared.Answer.{Answer}
+use Rattle.core.specs.Call.{lentRefusal}
+use Rattle.core.specs.declared.Core.{Core}
+use Rattle.core.specs.declared.Answer.{Answer}
 use Rattle.decoding.specs.Decode.{decodeWithin}
 use Rattle.decoding.proofs.DecodeLaws.{decode-lent}
 use Rattle.issuing.specs.Issue.{issueWithin}
@@ -37,41 +37,41 @@ module _ (r : Record) where
       by-commit not3 = rw (ne-eqb (r .kind) 1 not1, ne-eqb (r .kind) 2 not2, ne-eqb (r .kind) 3 not3)
 
 -- the calls, where 5 and 6 do not apply
-module _ (program memory : List ℕ) (m : Machine) (lent : lentRefusal m program memory ≡ 0) where
+module _ (program memory : List ℕ) (m : Core) (lent : lentRefusal m program memory ≡ 0) where
   abbrev w : World
-  w = record { machine = m; memory = memory }
+  w = record { core = m; memory = memory }
 
-  pub decode-made : (call : Call) (guess : ℕ) (a : Answer) → call ≡ decode guess → a ≡ decodeWithin program guess m → make program (own call) w ≡ madeBy (a .machine) memory (a .number)
+  pub decode-made : (call : Call) (guess : ℕ) (a : Answer) → call ≡ decode guess → a ≡ decodeWithin program guess m → make program (own call) w ≡ madeBy (a .core) memory (a .number)
   unfolding make
   decode-made call guess a q e =
-      ap (λ (x : Call). make program (own x) w) q ∙ ap (λ (x : Answer). madeBy (x .machine) memory (x .number)) (sym (e ∙ decode-lent program memory guess m lent))
+      ap (λ (x : Call). make program (own x) w) q ∙ ap (λ (x : Answer). madeBy (x .core) memory (x .number)) (sym (e ∙ decode-lent program memory guess m lent))
 
-  pub issue-made : (call : Call) (position : ℕ) (a : Answer) → call ≡ issue position → a ≡ issueWithin memory position m → make program (own call) w ≡ madeBy (a .machine) memory (a .number)
+  pub issue-made : (call : Call) (position : ℕ) (a : Answer) → call ≡ issue position → a ≡ issueWithin memory position m → make program (own call) w ≡ madeBy (a .core) memory (a .number)
   unfolding make
   issue-made call position a q e =
-      ap (λ (x : Call). make program (own x) w) q ∙ ap (λ (x : Answer). madeBy (x .machine) memory (x .number)) (sym (e ∙ issue-lent program memory position m lent))
+      ap (λ (x : Call). make program (own x) w) q ∙ ap (λ (x : Answer). madeBy (x .core) memory (x .number)) (sym (e ∙ issue-lent program memory position m lent))
 
-  pub complete-made : (call : Call) (position : ℕ) (a : Answer) → call ≡ complete position → a ≡ completeWithin position m → make program (own call) w ≡ madeBy (a .machine) memory (a .number)
+  pub complete-made : (call : Call) (position : ℕ) (a : Answer) → call ≡ complete position → a ≡ completeWithin position m → make program (own call) w ≡ madeBy (a .core) memory (a .number)
   unfolding make
   complete-made call position a q e =
-      ap (λ (x : Call). make program (own x) w) q ∙ ap (λ (x : Answer). madeBy (x .machine) memory (x .number)) (sym (e ∙ complete-lent program memory position m lent))
+      ap (λ (x : Call). make program (own x) w) q ∙ ap (λ (x : Answer). madeBy (x .core) memory (x .number)) (sym (e ∙ complete-lent program memory position m lent))
 
-  pub commit-made : (call : Call) (a : Answer) (written : List ℕ) → call ≡ commit → commitWithin memory m ≡ record { answer = a; memory = written } → make program (own call) w ≡ madeBy (a .machine) written (a .number)
+  pub commit-made : (call : Call) (a : Answer) (written : List ℕ) → call ≡ commit → commitWithin memory m ≡ record { answer = a; memory = written } → make program (own call) w ≡ madeBy (a .core) written (a .number)
   unfolding make
   commit-made call a written q e =
-      ap (λ (x : Call). make program (own x) w) q ∙ ap (λ (x : Commit). madeBy (x .answer .machine) (x .memory) (x .answer .number)) (commit-lent program memory m lent ∙ e)
+      ap (λ (x : Call). make program (own x) w) q ∙ ap (λ (x : Commit). madeBy (x .answer .core) (x .memory) (x .answer .number)) (commit-lent program memory m lent ∙ e)
 
-adding-is : (call : Call) (before after : Machine) (c : Counts) (a b d : ℕ) → a ≡ commits call after → b ≡ steals call before → d ≡ drops call before after → adding a b d c ≡ accepting call before after c
+adding-is : (call : Call) (before after : Core) (c : Counts) (a b d : ℕ) → a ≡ commits call after → b ≡ steals call before → d ≡ drops call before after → adding a b d c ≡ accepting call before after c
 adding-is call before after c a b d p q r = rw (p, q, r)
 
 -- what an event leaves
-module _ (program memory : List ℕ) (m : Machine) (r : Record) (counts : Counts) (next : Machine) (written : List ℕ) (number : ℕ) (after : Counts)
-    (e : make program (own (callBy r)) (record { machine = m; memory = memory }) ≡ madeBy next written number) where
+module _ (program memory : List ℕ) (m : Core) (r : Record) (counts : Counts) (next : Core) (written : List ℕ) (number : ℕ) (after : Counts)
+    (e : make program (own (callBy r)) (record { core = m; memory = memory }) ≡ madeBy next written number) where
   abbrev begin : Played
-  begin = record { world = record { machine = m; memory = memory }; counts = counts }
+  begin = record { world = record { core = m; memory = memory }; counts = counts }
 
   abbrev left : Played
-  left = record { world = record { machine = next; memory = written }; counts = after }
+  left = record { world = record { core = next; memory = written }; counts = after }
 
   pub event-refused : (number ≡ 0 → ⊥) → after ≡ refusing counts → left ≡ played program r begin
   unfolding played

@@ -9,7 +9,7 @@ use lib.Dec.{eqb}
 use lib.ListN.{length}
 use Rattle.isa.specs.Reads.{choose}
 use Rattle.formats.specs.declared.Record.{Record}
-use Rattle.machine.specs.declared.Machine.{Machine}
+use Rattle.core.specs.declared.Core.{Core}
 use Rattle.agreement.specs.Lists.{Call, own, Made, make, makeAll, isCommit}
 use Rattle.events.specs.declared.Counts.{Counts}
 use Rattle.events.specs.Counts.{callBy, accepting, refusing, Played, played, playedAll}
@@ -20,7 +20,7 @@ pub one-most : (b : Bool) → choose b 1 0 ≤ 1
 one-most true = omega arith
 one-most false = omega arith
 
-module _ (call : Call) (before after : Machine) (c : Counts) where
+module _ (call : Call) (before after : Core) (c : Counts) where
   abbrev next : Bool → Counts
   next b = choose b (accepting call before after c) (refusing c)
 
@@ -39,11 +39,11 @@ module _ (program : List ℕ) (r : Record) (p : Played) where
 
   played-counted : played program r p .counts .accepted + played program r p .counts .refused ≡ suc (p .counts .accepted + p .counts .refused)
   unfolding played
-  played-counted = one-more (callBy r) (p .world .machine) (made .world .machine) (p .counts) (eqb (made .number) 0)
+  played-counted = one-more (callBy r) (p .world .core) (made .world .core) (p .counts) (eqb (made .number) 0)
 
   played-committed : p .counts .committed ≤ p .counts .accepted → played program r p .counts .committed ≤ played program r p .counts .accepted
   unfolding played
-  played-committed l = no-more (callBy r) (p .world .machine) (made .world .machine) (p .counts) (eqb (made .number) 0) l
+  played-committed l = no-more (callBy r) (p .world .core) (made .world .core) (p .counts) (eqb (made .number) 0) l
 
 all-counted : (program : List ℕ) (events : List Record) (p : Played)
     → playedAll program events p .counts .accepted + playedAll program events p .counts .refused ≡ p .counts .accepted + p .counts .refused + length events
@@ -72,7 +72,7 @@ statement =
       committed = λ program events w. all-committed program events (countedFrom w) (omega arith);
       commits = λ program events w runs.
           let all = all-commits program events (countedFrom w) in
-          let start : haltingCommit (w .machine) ≡ 0 = rw (eq-eqb (w .machine .halt .cause) 0 runs) in
+          let start : haltingCommit (w .core) ≡ 0 = rw (eq-eqb (w .core .halt .cause) 0 runs) in
           omega arith;
       world = λ program events w. all-world program events (countedFrom w);
     }

@@ -5,7 +5,7 @@ use mathlib.Core.List.{List, [], _∷_}
 use lib.Dec.{eqb}
 use Rattle.isa.specs.Reads.{choose}
 use Rattle.formats.specs.declared.Record.{Record}
-use Rattle.machine.specs.declared.Machine.{Machine}
+use Rattle.core.specs.declared.Core.{Core}
 use Rattle.completing.specs.Complete.{needsRegister, noneFree}
 use Rattle.agreement.specs.Lists.{Call, decode, issue, complete, commit, own, World, Made, make, isCommit}
 use Rattle.events.specs.declared.Counts.{Counts}
@@ -15,25 +15,25 @@ abbrev pub callBy : Record → Call
 callBy r = choose (eqb (r .kind) 1) (decode (r .guess)) (choose (eqb (r .kind) 2) (issue (r .position)) (choose (eqb (r .kind) 3) (complete (r .position)) commit))
 
 -- "Committed counts commits without a halt"
-abbrev pub commits : Call → Machine → ℕ
+abbrev pub commits : Call → Core → ℕ
 commits call after = choose (isCommit call && eqb (after .halt .cause) 0) 1 0
 
 -- a theft: a register is needed and none is free
-abbrev pub steals : Call → Machine → ℕ
+abbrev pub steals : Call → Core → ℕ
 steals (decode guess) before = 0
 steals (issue position) before = 0
 steals (complete position) before = choose (needsRegister before position && noneFree before) 1 0
 steals commit before = 0
 
 -- the entries that a wrong prediction drops, and those behind a halting one; "the halting entry is not a dropped one"
-abbrev pub drops : Call → Machine → Machine → ℕ
+abbrev pub drops : Call → Core → Core → ℕ
 drops (decode guess) before after = 0
 drops (issue position) before after = 0
 drops (complete position) before after = before .count - after .count
 drops commit before after = choose (eqb (after .halt .cause) 0) 0 (before .count - 1)
 
 -- an accepted call
-abbrev pub accepting : Call → Machine → Machine → Counts → Counts
+abbrev pub accepting : Call → Core → Core → Counts → Counts
 accepting call before after c =
     record {
       accepted = c .accepted + 1;
@@ -64,7 +64,7 @@ played program r p =
     let made : Made = make program (own (callBy r)) (p .world) in
     record {
       world = made .world;
-      counts = choose (eqb (made .number) 0) (accepting (callBy r) (p .world .machine) (made .world .machine) (p .counts)) (refusing (p .counts));
+      counts = choose (eqb (made .number) 0) (accepting (callBy r) (p .world .core) (made .world .core) (p .counts)) (refusing (p .counts));
     }
 
 -- "Replay makes every event, counting refused ones."

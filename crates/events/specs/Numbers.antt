@@ -26,4 +26,4 @@ pub record Small (limit : ℕ) (c : Counts) : Type 0 where
 
 -- what an event hands back, with the data that it leaves
 abbrev pub playedBy : Played → List ℕ → Reached
-playedBy p memory = record { world = record { machine = p .machine; memory = memory }; counts = p .counts }
+playedBy p memory = record { world = record { core = p .core; memory = memory }; counts = p .counts }

@@ -6,14 +6,14 @@ use mathlib.Core.List.{List}
 use lib.ListN.{length}
 use Rattle.formats.specs.Schedule.{scheduleFits, windowIn, registersIn}
 use Rattle.formats.specs.Chain.{scheduleRefusal, eventsOf}
-use Rattle.machine.specs.SetUp.{freshMachine}
+use Rattle.core.specs.SetUp.{freshMachine}
 use Rattle.ranges.specs.Sizes.{setUpRefusal}
-use Rattle.machine.specs.declared.Machine.{Machine}
+use Rattle.core.specs.declared.Core.{Core}
 use Rattle.agreement.specs.Lists.{started}
 use Rattle.events.specs.Counts.{Played, playedAll, noCounts}
 
 -- the machine of a set-up by record 0, and a schedule, neither of them refused
-pub record Ready (m : Machine) (program memory schedule : List ℕ) : Type 0 where
+pub record Ready (m : Core) (program memory schedule : List ℕ) : Type 0 where
   pub fresh : m ≡ freshMachine (windowIn schedule) (registersIn schedule) (length program) (length memory)
   pub accepted : setUpRefusal (windowIn schedule) (registersIn schedule) (length program) (length memory) ≡ 0
   pub fits : scheduleFits (length schedule) ≡ true

@@ -1,7 +1,7 @@
 // What the events of a schedule count.
 pub mod counting;
 
-use machine::Machine;
+use core::Core;
 
 // How many calls were accepted and refused, how many commits were made without a halt, how many registers were stolen and
 // how many entries dropped.
@@ -14,6 +14,6 @@ pub struct Counts {
 }
 
 pub struct Played {
-    pub machine: Machine,
+    pub core: Core,
     pub counts: Counts,
 }

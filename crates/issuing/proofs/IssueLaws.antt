@@ -11,11 +11,11 @@ use Rattle.reference.specs.Step.{when, first}
 use Rattle.tables.specs.Operand.{isReady}
 use Rattle.tables.specs.Entry.{emptyEntry, isWaiting}
 use Rattle.tables.specs.declared.Entry.{Entry}
-use Rattle.machine.specs.declared.Machine.{Machine}
-use Rattle.machine.specs.Call.{halted, noEntry, lentRefusal, answered}
-use Rattle.machine.specs.Changes.{entryAt}
+use Rattle.core.specs.declared.Core.{Core}
+use Rattle.core.specs.Call.{halted, noEntry, lentRefusal, answered}
+use Rattle.core.specs.Changes.{entryAt}
 use Rattle.issuing.specs.Issue.{storeBelow, unready, issueRefusal, issued, issueWithin, issueOf}
-use Rattle.machine.proofs.RefusalLaws.{passed, own-next}
+use Rattle.core.proofs.RefusalLaws.{passed, own-next}
 
 pub below-none : (entries : List Entry) → false ≡ storeBelow 0 entries
 unfolding storeBelow
@@ -26,7 +26,7 @@ unfolding storeBelow
 below-more k entries = rw add-one
 
 -- the refusals, by the tests
-module _ (position : ℕ) (m : Machine) where
+module _ (position : ℕ) (m : Core) where
   abbrev e : Entry
   e = entryAt m position
 
@@ -63,13 +63,13 @@ module _ (position : ℕ) (m : Machine) where
           no-store l b = rw (h, n, s, r, l, b)
 
 -- an issue that is not refused has an entry
-pub has-entry : (position : ℕ) (m : Machine) → issueRefusal position m ≡ 0 → position < m .count
+pub has-entry : (position : ℕ) (m : Core) → issueRefusal position m ≡ 0 → position < m .count
 unfolding issueRefusal
 has-entry position m z =
     let e = entryAt m position in
     let rest = when (not (isWaiting (e .state))) 13 ∷ when (unready e) 14 ∷ when (loads (e .instruction) && storeBelow position (m .entries)) 15 ∷ [] in
     leb-false (m .count) position (passed (noEntry m position) 12 rest refl (passed (halted m) 10 (when (noEntry m position) 12 ∷ rest) refl z .1) .0)
 
-pub issue-lent : (program memory : List ℕ) (position : ℕ) (m : Machine) → lentRefusal m program memory ≡ 0 → issueWithin memory position m ≡ issueOf program memory position m
+pub issue-lent : (program memory : List ℕ) (position : ℕ) (m : Core) → lentRefusal m program memory ≡ 0 → issueWithin memory position m ≡ issueOf program memory position m
 unfolding issueWithin issueOf
 issue-lent program memory position m e = ap (λ (n : ℕ). answered m n (issued memory position m)) (own-next (lentRefusal m program memory) (issueRefusal position m) e)

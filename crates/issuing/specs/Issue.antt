@@ -9,10 +9,10 @@ use Rattle.reference.specs.Step.{when, first}
 use Rattle.tables.specs.Operand.{isReady, valueOf}
 use Rattle.tables.specs.Entry.{emptyEntry, isWaiting, issuedEntry}
 use Rattle.tables.specs.declared.Entry.{Entry}
-use Rattle.machine.specs.Call.{halted, noEntry, lentRefusal, inTurn, answered}
-use Rattle.machine.specs.Changes.{entryAt, place}
-use Rattle.machine.specs.declared.Machine.{Machine}
-use Rattle.machine.specs.declared.Answer.{Answer}
+use Rattle.core.specs.Call.{halted, noEntry, lentRefusal, inTurn, answered}
+use Rattle.core.specs.Changes.{entryAt, place}
+use Rattle.core.specs.declared.Core.{Core}
+use Rattle.core.specs.declared.Answer.{Answer}
 
 -- one of the oldest n entries is a store
 unfoldable pub storeBelow : ℕ → List Entry → Bool
@@ -24,7 +24,7 @@ abbrev pub unready : Entry → Bool
 unready e = not (isReady (e .left) && isReady (e .right))
 
 -- 10 halted; 12 no entry there; 13 entry not waiting; 14 operand not ready; 15 load with an older store in the window
-unfoldable pub issueRefusal : ℕ → Machine → ℕ
+unfoldable pub issueRefusal : ℕ → Core → ℕ
 issueRefusal position m =
     first
     (when (halted m) 10
@@ -44,12 +44,12 @@ secondRead values memory e = secondValue (e .instruction) (firstRead values e) (
 abbrev pub readEntry : List ℕ → List ℕ → Entry → Entry
 readEntry values memory e = issuedEntry (firstRead values e) (secondRead values memory e) e
 
-unfoldable pub issued : List ℕ → ℕ → Machine → Machine
+unfoldable pub issued : List ℕ → ℕ → Core → Core
 issued memory position m = place position (readEntry (m .values) memory (entryAt m position)) m
 
 -- issue, where 5 and 6 do not apply
-unfoldable pub issueWithin : List ℕ → ℕ → Machine → Answer
+unfoldable pub issueWithin : List ℕ → ℕ → Core → Answer
 issueWithin memory position m = answered m (issueRefusal position m) (issued memory position m)
 
-unfoldable pub issueOf : List ℕ → List ℕ → ℕ → Machine → Answer
+unfoldable pub issueOf : List ℕ → List ℕ → ℕ → Core → Answer
 issueOf program memory position m = answered m (inTurn (lentRefusal m program memory) (issueRefusal position m)) (issued memory position m)

@@ -3,24 +3,24 @@ ghost use mathlib.Core.Path.{_≡_};
 ghost use mathlib.Core.Bool.{true};
 ghost use Prim.Native.Nat.{_≤_, _<_};
 ghost use lib.ListN.{length};
-ghost use Rattle.machine.specs.Range.{machineInRange};
+ghost use Rattle.core.specs.Range.{machineInRange};
 ghost use Rattle.issuing.specs.Issue as Issue;
+use core::Answer;
+use core::Core;
 use execution::roles;
-use machine::Answer;
-use machine::Machine;
 use tables::Entry;
 use tables::entries;
 use tables::operands;
 
 // one of the oldest n entries is a store
-fn store_below(machine: Machine, n: usize) -> bool
-    requires { ⌜ (n ≤ machine .count) × (machineInRange machine ≡ true) ⌝ }
-    ensures { λ r. ⌜ r ≡ Issue.storeBelow n (machine .entries) ⌝ }
+fn store_below(core: Core, n: usize) -> bool
+    requires { ⌜ (n ≤ core .count) × (machineInRange core ≡ true) ⌝ }
+    ensures { λ r. ⌜ r ≡ Issue.storeBelow n (core .entries) ⌝ }
 {
     let mut found = false;
     let mut k: usize = 0;
     while k < n {
-        let e = machine.entries[k];
+        let e = core.entries[k];
         let i = e.instruction;
         found = roles::is_store(i) | found;
         k += 1;
@@ -28,18 +28,18 @@ fn store_below(machine: Machine, n: usize) -> bool
     found
 }
 
-fn issue_refusal(machine: Machine, position: usize) -> u8
-    requires { ⌜ machineInRange machine ≡ true ⌝ }
-    ensures { λ r. ⌜ r ≡ Issue.issueRefusal position machine ⌝ }
+fn issue_refusal(core: Core, position: usize) -> u8
+    requires { ⌜ machineInRange core ≡ true ⌝ }
+    ensures { λ r. ⌜ r ≡ Issue.issueRefusal position core ⌝ }
 {
-    let halt = machine.halt;
+    let halt = core.halt;
     if halt.cause != 0 {
         return 10;
     }
-    if machine.count as usize <= position {
+    if core.count as usize <= position {
         return 12;
     }
-    let e = machine.entries[position];
+    let e = core.entries[position];
     if !entries::is_waiting(e) {
         return 13;
     }
@@ -50,7 +50,7 @@ fn issue_refusal(machine: Machine, position: usize) -> u8
     if !roles::is_load(i) {
         return 0;
     }
-    if store_below(machine, position) {
+    if store_below(core, position) {
         return 15;
     }
     0
@@ -70,28 +70,28 @@ pub fn read(values: &[u32; 96], data: &[u8], e: Entry) -> Entry
     entries::issued(e, first, second)
 }
 
-fn issued(mut machine: Machine, data: &[u8], position: usize) -> Machine
-    requires { ⌜ (machineInRange machine ≡ true) × (position < machine .count) ⌝ }
-    ensures { λ r. ⌜ r ≡ Issue.issued (now («data» .entry)) position machine ⌝ }
+fn issued(mut core: Core, data: &[u8], position: usize) -> Core
+    requires { ⌜ (machineInRange core ≡ true) × (position < core .count) ⌝ }
+    ensures { λ r. ⌜ r ≡ Issue.issued (now («data» .entry)) position core ⌝ }
 {
-    let e = machine.entries[position];
-    let filled = read(&machine.values, data, e);
-    machine.entries[position] = filled;
-    machine
+    let e = core.entries[position];
+    let filled = read(&core.values, data, e);
+    core.entries[position] = filled;
+    core
 }
 
 // Issue, where 5 and 6 do not apply.
-pub fn issue_within(machine: Machine, data: &[u8], position: usize) -> Answer
-    requires { ⌜ machineInRange machine ≡ true ⌝ }
-    ensures { λ r. ⌜ r ≡ Issue.issueWithin (now («data» .entry)) position machine ⌝ }
+pub fn issue_within(core: Core, data: &[u8], position: usize) -> Answer
+    requires { ⌜ machineInRange core ≡ true ⌝ }
+    ensures { λ r. ⌜ r ≡ Issue.issueWithin (now («data» .entry)) position core ⌝ }
 {
-    let number = issue_refusal(machine, position);
+    let number = issue_refusal(core, position);
     if number != 0 {
-        return Answer { machine, number };
+        return Answer { core, number };
     }
-    let next = issued(machine, data, position);
+    let next = issued(core, data, position);
     Answer {
-        machine: next,
+        core: next,
         number: 0,
     }
 }

@@ -2,11 +2,11 @@
 ghost use mathlib.Core.Path.{_≡_};
 ghost use Rattle.events.specs.Numbers as Numbers;
 ghost use Rattle.events.specs.Play as Play;
+use core::Core;
 use events::Counts;
 use events::Played;
 use events::counting;
 use execution::roles;
-use machine::Machine;
 use tables::entries as entry;
 use tables::free_list;
 use tables::maps;
@@ -19,25 +19,25 @@ use turns::ways;
 // Makes every event of a schedule on the machine of its set-up, and counts them. Every case is made in place: the machine
 // stands in locals, whose tables are lent to `changes`; the loops over the entries stand here, since an array of structs
 // cannot be lent. Each arm ends the turn; a drop takes a turn for each entry. Inner: `bench` calls it.
-pub fn play(machine: Machine, program: &[u8], data: &mut [u8], schedule: &[u8]) -> Played
-    requires { ⌜ Play.Ready machine (now program) (now «data») (now schedule) ⌝ }
+pub fn play(core: Core, program: &[u8], data: &mut [u8], schedule: &[u8]) -> Played
+    requires { ⌜ Play.Ready core (now program) (now «data») (now schedule) ⌝ }
     ensures { λ r. ⌜ Numbers.playedBy r (now («data» .exit)) ≡ Play.playedOf (now (program .entry)) (now («data» .entry)) (now (schedule .entry)) ⌝ }
 {
-    let setup = machine.setup;
-    let mut entries = machine.entries;
-    let mut mapname = machine.mapname;
-    let mut mapregister = machine.mapregister;
-    let mut mapvalid = machine.mapvalid;
-    let mut physical = machine.physical;
-    let mut values = machine.values;
-    let mut registerlink = machine.registerlink;
-    let mut namelink = machine.namelink;
-    let mut registerhead = machine.registerhead;
-    let mut namehead = machine.namehead;
-    let mut count = machine.count as usize;
-    let mut fetch = machine.fetch;
-    let mut next = machine.next;
-    let mut halt = machine.halt;
+    let setup = core.setup;
+    let mut entries = core.entries;
+    let mut mapname = core.mapname;
+    let mut mapregister = core.mapregister;
+    let mut mapvalid = core.mapvalid;
+    let mut physical = core.physical;
+    let mut values = core.values;
+    let mut registerlink = core.registerlink;
+    let mut namelink = core.namelink;
+    let mut registerhead = core.registerhead;
+    let mut namehead = core.namehead;
+    let mut count = core.count as usize;
+    let mut fetch = core.fetch;
+    let mut next = core.next;
+    let mut halt = core.halt;
     // so many entries stay: the youngest beyond them are dropped before the next event
     let mut kept = count;
     let mut counts = Counts {
@@ -286,7 +286,7 @@ pub fn play(machine: Machine, program: &[u8], data: &mut [u8], schedule: &[u8]) 
     }
     let occupied = count as u8;
     Played {
-        machine: Machine {
+        core: Core {
             setup,
             count: occupied,
             entries,

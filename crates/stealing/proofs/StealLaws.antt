@@ -11,9 +11,9 @@ use Rattle.isa.specs.Reads.{choose}
 use Rattle.tables.specs.Table.{lookUp, storeUnder}
 use Rattle.tables.specs.Entry.{emptyEntry, waitingEntry, sleepEntry, held}
 use Rattle.tables.specs.declared.Entry.{Entry}
-use Rattle.machine.specs.declared.Machine.{Machine}
-use Rattle.machine.specs.Setters.{withMap, withPhysical}
-use Rattle.machine.specs.Changes.{entryAt, place, changeAll}
+use Rattle.core.specs.declared.Core.{Core}
+use Rattle.core.specs.Setters.{withMap, withPhysical}
+use Rattle.core.specs.Changes.{entryAt, place, changeAll}
 use Rattle.stealing.specs.Steal.{victimAmong, victimOf, robbed}
 
 -- the search for a victim
@@ -48,7 +48,7 @@ module _ (physical : List ℕ) (entries : List Entry) (position : ℕ) where
   none-at k l = let n : k - position ≡ 0 = omega arith in ap (λ (j : ℕ). victimAmong j physical entries position) n ∙ victim-none
 
 -- the victim waits again
-pub robbed-is : (m : Machine) (victim : ℕ) (again : Entry) (shown : ℕ) (mapregister physical : List ℕ) (mapvalid : List Bool)
+pub robbed-is : (m : Core) (victim : ℕ) (again : Entry) (shown : ℕ) (mapregister physical : List ℕ) (mapvalid : List Bool)
     → let e : Entry = entryAt m victim in
     again ≡ waitingEntry e
     → shown ≡ lookUp (m .mapname) (e .destination)
@@ -69,9 +69,9 @@ victim-most (suc n) physical entries position = at (eqb (held physical (getD ent
     at true h = omega arith
     at false h = omega arith
 
-pub victim-within : (m : Machine) (position : ℕ) → position < m .count → victimOf m position < m .count
+pub victim-within : (m : Core) (position : ℕ) → position < m .count → victimOf m position < m .count
 victim-within m position h = omega (arith, victim-most (m .count - suc position) (m .physical) (m .entries) position)
 
-pub robbed-count : (victim : ℕ) (m : Machine) → robbed victim m .count ≡ m .count
+pub robbed-count : (victim : ℕ) (m : Core) → robbed victim m .count ≡ m .count
 unfolding robbed
 robbed-count victim m = refl

@@ -1,25 +1,25 @@
 // Theft: the youngest entry that holds a register loses it.
 ghost use mathlib.Core.Path.{_≡_};
 ghost use Prim.Native.Nat.{_≤_, _<_};
-ghost use Rattle.machine.specs.Changes.{changeAll};
+ghost use Rattle.core.specs.Changes.{changeAll};
 ghost use Rattle.stealing.specs.Steal as Steal;
 ghost use Rattle.tables.specs.Entry.{sleepEntry};
-use machine::Machine;
+use core::Core;
 use tables::entries;
 use tables::maps;
 
 // the youngest entry that holds a register, if it is younger than the caller; else the caller's position
-pub fn victim(machine: Machine, position: usize) -> usize
-    requires { ⌜ (position < machine .count) × (machine .count ≤ 64) ⌝ }
-    ensures { λ r. ⌜ r ≡ Steal.victimOf machine position ⌝ }
+pub fn victim(core: Core, position: usize) -> usize
+    requires { ⌜ (position < core .count) × (core .count ≤ 64) ⌝ }
+    ensures { λ r. ⌜ r ≡ Steal.victimOf core position ⌝ }
 {
-    let mut k = machine.count as usize - 1;
+    let mut k = core.count as usize - 1;
     loop {
         if k <= position {
             break position;
         }
-        let e = machine.entries[k];
-        if entries::held(&machine.physical, e) != 0 {
+        let e = core.entries[k];
+        if entries::held(&core.physical, e) != 0 {
             break k;
         }
         k -= 1;
@@ -27,32 +27,32 @@ pub fn victim(machine: Machine, position: usize) -> usize
 }
 
 // operands on this name are waiting again
-fn sleep_all(mut machine: Machine, name: u8) -> Machine
-    requires { ⌜ machine .count ≤ 64 ⌝ }
-    ensures { λ r. ⌜ r ≡ changeAll (sleepEntry name) machine ⌝ }
+fn sleep_all(mut core: Core, name: u8) -> Core
+    requires { ⌜ core .count ≤ 64 ⌝ }
+    ensures { λ r. ⌜ r ≡ changeAll (sleepEntry name) core ⌝ }
 {
-    let count = machine.count as usize;
+    let count = core.count as usize;
     let mut k: usize = 0;
     while k < count {
-        let e = machine.entries[k];
+        let e = core.entries[k];
         let asleep = entries::sleep(e, name);
-        machine.entries[k] = asleep;
+        core.entries[k] = asleep;
         k += 1;
     }
-    machine
+    core
 }
 
 // the victim waits again, and its name has no register any more
-pub fn robbed(mut machine: Machine, victim: usize) -> Machine
-    requires { ⌜ (victim < machine .count) × (machine .count ≤ 64) ⌝ }
-    ensures { λ r. ⌜ r ≡ Steal.robbed victim machine ⌝ }
+pub fn robbed(mut core: Core, victim: usize) -> Core
+    requires { ⌜ (victim < core .count) × (core .count ≤ 64) ⌝ }
+    ensures { λ r. ⌜ r ≡ Steal.robbed victim core ⌝ }
 {
-    let e = machine.entries[victim];
+    let e = core.entries[victim];
     let again = entries::waiting(e);
-    machine.entries[victim] = again;
-    let shown = maps::mapped(&machine.mapname, e.destination);
-    maps::map_where(&mut machine.mapregister, shown == e.name, e.destination, 0);
-    maps::valid_where(&mut machine.mapvalid, shown == e.name, e.destination, false);
-    maps::store_under(&mut machine.physical, e.name, 0);
-    sleep_all(machine, e.name)
+    core.entries[victim] = again;
+    let shown = maps::mapped(&core.mapname, e.destination);
+    maps::map_where(&mut core.mapregister, shown == e.name, e.destination, 0);
+    maps::valid_where(&mut core.mapvalid, shown == e.name, e.destination, false);
+    maps::store_under(&mut core.physical, e.name, 0);
+    sleep_all(core, e.name)
 }

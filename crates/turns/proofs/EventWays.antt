@@ -19,13 +19,13 @@ use Rattle.tables.specs.FreeList.{takenHead, takenLink, freedHead, freedLink}
 use Rattle.tables.specs.Entry.{emptyEntry, stoppedEntry, completedEntry, predictedEntry, waitingEntry, sleepEntry, wakeEntry, held}
 use Rattle.tables.specs.declared.Entry.{Entry}
 use Rattle.formats.specs.declared.Record.{Record}
-use Rattle.machine.specs.Call.{lentRefusal}
-use Rattle.machine.specs.Changes.{entryAt, place, changeFirst}
-use Rattle.machine.specs.Setters.{withCount, withEntries, withMap, withPhysical, withValues, withFreeRegisters, withFreeNames, withFetch, withNext, withHalt}
-use Rattle.machine.specs.Drop.{dropYoungest, dropMany, dropTo}
-use Rattle.machine.specs.declared.Machine.{Machine}
-use Rattle.machine.specs.declared.Answer.{Answer}
-use Rattle.machine.proofs.RefusalLaws.{answered-next, answered-refused}
+use Rattle.core.specs.Call.{lentRefusal}
+use Rattle.core.specs.Changes.{entryAt, place, changeFirst}
+use Rattle.core.specs.Setters.{withCount, withEntries, withMap, withPhysical, withValues, withFreeRegisters, withFreeNames, withFetch, withNext, withHalt}
+use Rattle.core.specs.Drop.{dropYoungest, dropMany, dropTo}
+use Rattle.core.specs.declared.Core.{Core}
+use Rattle.core.specs.declared.Answer.{Answer}
+use Rattle.core.proofs.RefusalLaws.{answered-next, answered-refused}
 use Rattle.decoding.specs.Decode.{entryFor, enter, decoded, decodeRefusal, decodeWithin}
 use Rattle.decoding.specs.Seen.{seen}
 use Rattle.decoding.proofs.DecodeLaws.{renamed-is, entered}
@@ -49,28 +49,28 @@ use Rattle.turns.proofs.EntryLaws.{set-same}
 use Rattle.turns.proofs.RedirectLaws.{dropped-count, redirected-late}
 use Rattle.turns.proofs.TheftLaws.{finish-entries, finish-predicted, stolen-is}
 
-abbrev pub reaching : Machine → List ℕ → Counts → Played
-reaching m memory counts = record { world = record { machine = m; memory = memory }; counts = counts }
+abbrev pub reaching : Core → List ℕ → Counts → Played
+reaching m memory counts = record { world = record { core = m; memory = memory }; counts = counts }
 
-abbrev given : Machine → Answer
-given m = record { machine = m; number = 0 }
+abbrev given : Core → Answer
+given m = record { core = m; number = 0 }
 
 -- a refused call hands the machine back
-refused-made : (program memory : List ℕ) (m : Machine) → lentRefusal m program memory ≡ 0 → (call : Call) → (refusalBy call m ≡ 0 → ⊥)
-    → make program (own call) (record { machine = m; memory = memory }) ≡ madeBy m memory (refusalBy call m)
+refused-made : (program memory : List ℕ) (m : Core) → lentRefusal m program memory ≡ 0 → (call : Call) → (refusalBy call m ≡ 0 → ⊥)
+    → make program (own call) (record { core = m; memory = memory }) ≡ madeBy m memory (refusalBy call m)
 unfolding decodeWithin issueWithin completeWithin commitWithin
 refused-made program memory m lent (decode guess) some = decode-made program memory m lent (decode guess) guess _ refl (answered-refused m _ (decodeRefusal m) (decodeRefusal m) refl some)
 refused-made program memory m lent (issue n) some = issue-made program memory m lent (issue n) n _ refl (answered-refused m _ (issueRefusal n m) (issueRefusal n m) refl some)
 refused-made program memory m lent (complete n) some = complete-made program memory m lent (complete n) n _ refl (answered-refused m _ (completeRefusal n m) (completeRefusal n m) refl some)
-refused-made program memory m lent commit some = commit-made program memory m lent commit (record { machine = m; number = commitRefusal m }) memory refl (commit-refused memory m (commitRefusal m) (commitRefusal m) refl some)
+refused-made program memory m lent commit some = commit-made program memory m lent commit (record { core = m; number = commitRefusal m }) memory refl (commit-refused memory m (commitRefusal m) (commitRefusal m) refl some)
 
 -- a halt and a drop change other parts
-halt-drops : (why : Stop) (n : ℕ) (m : Machine) → dropMany n (withHalt why m) ≡ withHalt why (dropMany n m)
+halt-drops : (why : Stop) (n : ℕ) (m : Core) → dropMany n (withHalt why m) ≡ withHalt why (dropMany n m)
 unfolding dropMany dropYoungest
 halt-drops why zero m = refl
 halt-drops why (suc n) m = halt-drops why n (dropYoungest m)
 
-retired-halt : (m : Machine) → retired m .halt ≡ m .halt
+retired-halt : (m : Core) → retired m .halt ≡ m .halt
 unfolding retired
 retired-halt m = refl
 
@@ -87,7 +87,7 @@ unneeded true b c h = ap (λ (x : Bool). x && c) h
 unneeded false b c h = refl
 
 -- the oldest entry leaves, its previous name and that name's register being free
-pub retired-here : (m : Machine) (e : Entry) (registerhead namehead : ℕ) (registerlink physical namelink : List ℕ) (entries : List Entry) (empty : Entry)
+pub retired-here : (m : Core) (e : Entry) (registerhead namehead : ℕ) (registerlink physical namelink : List ℕ) (entries : List Entry) (empty : Entry)
     → 0 < m .count
     → m .count ≤ length (m .entries)
     → e ≡ entryAt m 0
@@ -102,7 +102,7 @@ pub retired-here : (m : Machine) (e : Entry) (registerhead namehead : ℕ) (regi
     (withEntries (set entries (m .count - 1) empty) (withNext (e .predicted) (withFreeNames namehead namelink (withFreeRegisters registerhead registerlink (withPhysical physical m)))))
     ≡ retired m
 retired-here m e registerhead namehead registerlink physical namelink entries empty some room at b c d f g h z =
-    let rest : Machine = withNext (e .predicted) (withFreeNames namehead namelink (withFreeRegisters registerhead registerlink (withPhysical physical m))) in
+    let rest : Core = withNext (e .predicted) (withFreeNames namehead namelink (withFreeRegisters registerhead registerlink (withPhysical physical m))) in
     retired-is m (withEntries (set entries (m .count - 1) empty) rest) (lookUp (m .physical) (entryAt m 0 .previous)) registerhead namehead registerlink physical namelink refl
     (b ∙ ap (λ (x : Entry). freedHead (m .registerhead) (lookUp (m .physical) (x .previous))) at) (c ∙ ap (λ (x : Entry). freedLink (m .registerlink) (m .registerhead) (lookUp (m .physical) (x .previous))) at)
     (d ∙ ap (λ (x : Entry). storeUnder (m .physical) (x .previous) 0) at) (f ∙ ap (λ (x : Entry). freedHead (m .namehead) (x .previous)) at) (g ∙ ap (λ (x : Entry). freedLink (m .namelink) (m .namehead) (x .previous)) at)
@@ -110,7 +110,7 @@ retired-here m e registerhead namehead registerlink physical namelink entries em
     ∙ ap (λ (x : Entry). withEntries (moveDown (m .count) (m .entries)) (withNext (x .predicted) (withFreeNames namehead namelink (withFreeRegisters registerhead registerlink (withPhysical physical m))))) at)
 
 -- what an event leaves
-module _ {program start schedule : List ℕ} {left index : ℕ} {m : Machine} {memory : List ℕ} {counts : Counts} (g : Going program start schedule left index m memory counts) (r : Record) (after : Counts) where
+module _ {program start schedule : List ℕ} {left index : ℕ} {m : Core} {memory : List ℕ} {counts : Counts} (g : Going program start schedule left index m memory counts) (r : Record) (after : Counts) where
   lent : lentRefusal m program memory ≡ 0
   lent = is-lent g
 
@@ -153,7 +153,7 @@ module _ {program start schedule : List ℕ} {left index : ℕ} {m : Machine} {m
     abbrev e : Entry
     e = entryAt m n
 
-    complete-way : completeRefusal n m ≡ 0 → (k : Machine) → k ≡ completed n m → (s d : ℕ) → s ≡ choose (needsRegister m n && noneFree m) 1 0 → d ≡ m .count - k .count
+    complete-way : completeRefusal n m ≡ 0 → (k : Core) → k ≡ completed n m → (s d : ℕ) → s ≡ choose (needsRegister m n && noneFree m) 1 0 → d ≡ m .count - k .count
         → after ≡ adding 0 s d counts → reaching k memory after ≡ played program r (reaching m memory counts)
     unfolding completeWithin
     complete-way accepted k is s d stolen dropped added =
@@ -177,13 +177,13 @@ module _ {program start schedule : List ℕ} {left index : ℕ} {m : Machine} {m
         found-calm = sym (ap (λ (x : Outcome). x .stop .cause) is) ∙ calm
 
         -- without a cause: fetch and the new prediction first, the drops last
-        finished-way : completeRefusal n m ≡ 0 → (x : Machine) → x ≡ registered n (o .result) m → entryAt x n .predicted ≡ e .predicted → (k : Machine)
+        finished-way : completeRefusal n m ≡ 0 → (x : Core) → x ≡ registered n (o .result) m → entryAt x n .predicted ≡ e .predicted → (k : Core)
             → k ≡ withFetch (fetchAfter (o .next) (e .predicted) (x .fetch)) (place n (predictedEntry (o .next) (entryAt x n)) x)
             → (keep : ℕ) → keep ≡ keptAfter (o .next) (e .predicted) n (m .count) → (s : ℕ) → s ≡ choose (needsRegister m n && noneFree m) 1 0 → after ≡ adding 0 s (m .count - keep) counts
             → reaching (dropTo keep k) memory after ≡ played program r (reaching m memory counts)
         finished-way accepted x at same k left keep stays s stolen added =
-            let count : x .count ≡ m .count = ap (λ (y : Machine). y .count) at ∙ registered-count n (o .result) m in
-            let late : ℕ → ℕ → Machine = λ p many. dropTo (keptAfter (o .next) p n many) (withFetch (fetchAfter (o .next) p (x .fetch)) (place n (predictedEntry (o .next) (entryAt x n)) x)) in
+            let count : x .count ≡ m .count = ap (λ (y : Core). y .count) at ∙ registered-count n (o .result) m in
+            let late : ℕ → ℕ → Core = λ p many. dropTo (keptAfter (o .next) p n many) (withFetch (fetchAfter (o .next) p (x .fetch)) (place n (predictedEntry (o .next) (entryAt x n)) x)) in
             let ends : dropTo keep k ≡ completed n m =
             ap (dropTo keep) left
             ∙ ap (λ (j : ℕ). dropTo j (withFetch (fetchAfter (o .next) (e .predicted) (x .fetch)) (place n (predictedEntry (o .next) (entryAt x n)) x))) stays
@@ -194,7 +194,7 @@ module _ {program start schedule : List ℕ} {left index : ℕ} {m : Machine} {m
             ∙ finish-goes n o m calm
             ∙ ap (λ (y : Outcome). finished n y m) is in
             let most : keep ≤ m .count = let h = kept-most (o .next) (e .predicted) n (m .count) (c .there) in omega arith in
-            let same-count : k .count ≡ m .count = ap (λ (y : Machine). y .count) left ∙ count in
+            let same-count : k .count ≡ m .count = ap (λ (y : Core). y .count) left ∙ count in
             let rest : dropTo keep k .count ≡ k .count - (k .count - keep) = dropped-count (k .count - keep) k in
             complete-way accepted (dropTo keep k) ends s (m .count - keep) stolen (omega arith) added
 
@@ -230,8 +230,8 @@ module _ {program start schedule : List ℕ} {left index : ℕ} {m : Machine} {m
             let ended : Entry = completedEntry (o .result) e in
             let wakes : Entry → Entry = wakeEntry (e .name) (m .registerhead) in
             let room : n < length (m .entries) = let x = c .there in omega (arith, roomy g) in
-            let rest : Machine = withMap (m .mapname) mapregister mapvalid (withPhysical physical (withValues values (withFreeRegisters registerhead registerlink m))) in
-            let x : Machine = withEntries (changeFirst (m .count) wakes (set (m .entries) n ended)) rest in
+            let rest : Core = withMap (m .mapname) mapregister mapvalid (withPhysical physical (withValues values (withFreeRegisters registerhead registerlink m))) in
+            let x : Core = withEntries (changeFirst (m .count) wakes (set (m .entries) n ended)) rest in
             let taught : x ≡ learned n (m .registerhead) (o .result) m = learned-is m n (m .registerhead) (o .result) ended (lookUp (m .mapname) (e .destination)) registerhead mapregister physical values registerlink mapvalid refl refl a b d f h j in
             let off = and-none (needsRegister m n) (noneFree m) (ne-eqb (m .registerhead) 0 free) in
             finished-way (accepts off) x (taught ∙ free-register n (o .result) m some free)
@@ -270,8 +270,8 @@ module _ {program start schedule : List ℕ} {left index : ℕ} {m : Machine} {m
               let before : List Entry = set (m .entries) victim (waitingEntry (entryAt m victim)) in
               let room : n < length before = let y = c .there in let l = length-set (m .entries) victim (waitingEntry (entryAt m victim)) in omega (arith, roomy g) in
               let within : victim < m .count = let y = victim-within m n (c .there) in omega arith in
-              let rest : Machine = withMap (m .mapname) newregister newvalid (withPhysical newphysical (withValues values m)) in
-              let x : Machine = withEntries (changeFirst (m .count) passes (set before n ended)) rest in
+              let rest : Core = withMap (m .mapname) newregister newvalid (withPhysical newphysical (withValues values m)) in
+              let x : Core = withEntries (changeFirst (m .count) passes (set before n ended)) rest in
               let robbery : x ≡ learned n register (o .result) (robbed victim m) = stolen-is m (kept g) n victim register (o .result) (c .there) within (λ z. other (sym z)) none lostregister newregister lostphysical newphysical values lostvalid newvalid a b d f h j w in
               let registers : learned n register (o .result) (robbed victim m) ≡ registered n (o .result) m =
               ap (λ (y : ℕ). learned n y (o .result) (robbed victim m)) holds
@@ -292,12 +292,12 @@ module _ {program start schedule : List ℕ} {left index : ℕ} {m : Machine} {m
     oldest = ap (entryAt m) (c .oldest)
 
     pub commit-way : entryAt m n .stop .cause ≡ 0 → after ≡ adding 1 0 0 counts → (written : List ℕ) → written ≡ stored (entryAt m n .instruction) (entryAt m n .first) (entryAt m n .second) memory
-        → (k : Machine) → k ≡ retired m → reaching k written after ≡ played program r (reaching m memory counts)
+        → (k : Core) → k ≡ retired m → reaching k written after ≡ played program r (reaching m memory counts)
     unfolding commitWithin
     commit-way calm added written w k x =
         let q = c .call in
         let none : entryAt m 0 .stop .cause ≡ 0 = sym (ap (λ (y : Entry). y .stop .cause) oldest) ∙ calm in
-        let runs : k .halt .cause ≡ 0 = ap (λ (y : Machine). y .halt .cause) x ∙ ap (λ (y : Stop). y .cause) (retired-halt m) ∙ c .runs in
+        let runs : k .halt .cause ≡ 0 = ap (λ (y : Core). y .halt .cause) x ∙ ap (λ (y : Stop). y .cause) (retired-halt m) ∙ c .runs in
         event-accepted program memory m r counts k written 0 after
         (commit-made program memory m lent (callBy r) (given k) written q
         (commit-retires memory m (commitRefusal m) (c .accepted) k written none x (w ∙ ap (λ (y : Entry). stored (y .instruction) (y .first) (y .second) memory) oldest))) refl 1 0 0
@@ -309,11 +309,11 @@ module _ {program start schedule : List ℕ} {left index : ℕ} {m : Machine} {m
     halt-way cause added =
         let q = c .call in
         let why : Stop = entryAt m n .stop in
-        let k : Machine = dropTo 0 (withHalt why m) in
+        let k : Core = dropTo 0 (withHalt why m) in
         let late : k ≡ withHalt why (dropTo 0 m) = halt-drops why (m .count - 0) m in
         let same : k ≡ stoppedWith (entryAt m 0 .stop) m = late ∙ ap (λ (x : Entry). withHalt (x .stop) (dropTo 0 m)) oldest in
         let some : entryAt m 0 .stop .cause ≡ 0 → ⊥ = λ z. cause (ap (λ (x : Entry). x .stop .cause) oldest ∙ z) in
-        let halts : k .halt .cause ≡ 0 → ⊥ = λ z. cause (sym (ap (λ (x : Machine). x .halt .cause) late) ∙ z) in
+        let halts : k .halt .cause ≡ 0 → ⊥ = λ z. cause (sym (ap (λ (x : Core). x .halt .cause) late) ∙ z) in
         event-accepted program memory m r counts k memory 0 after
         (commit-made program memory m lent (callBy r) (given k) memory q (commit-halts memory m (commitRefusal m) (c .accepted) k some same)) refl 0 0 (m .count - 1)
         (rw (q, ne-eqb (k .halt .cause) 0 halts)) (rw q) (rw (q, ne-eqb (k .halt .cause) 0 halts)) added

@@ -13,11 +13,11 @@ use Rattle.formats.specs.Schedule.{recordAt, records, firstIndex}
 use Rattle.formats.specs.Chain.{recordRefusal, isMet, chainRefusal, eventsFrom}
 use Rattle.formats.specs.declared.Record.{Record}
 use Rattle.formats.proofs.Events.{events-none, events-ended, events-on}
-use Rattle.machine.specs.Range.{machineInRange}
-use Rattle.machine.specs.Call.{lentRefusal}
-use Rattle.machine.specs.declared.Machine.{Machine}
-use Rattle.machine.proofs.RefusalLaws.{passed, both-none}
-use Rattle.machine.proofs.ReportLaws.{in-range-count}
+use Rattle.core.specs.Range.{machineInRange}
+use Rattle.core.specs.Call.{lentRefusal}
+use Rattle.core.specs.declared.Core.{Core}
+use Rattle.core.proofs.RefusalLaws.{passed, both-none}
+use Rattle.core.proofs.ReportLaws.{in-range-count}
 use Rattle.completing.specs.Complete.{needsRegister, noneFree}
 use Rattle.agreement.specs.Lists.{Call, decode, issue, complete, commit, own, World, Made, make, isCommit, origin}
 use Rattle.agreement.proofs.Kept.{Kept}
@@ -68,7 +68,7 @@ unfolding playedAll
 playing-more program schedule n index p some = ap (λ (events : List Record). playedAll program events p) (events-on n schedule index some)
 
 -- what one event adds to each count
-drops-most : (call : Call) (before after : Machine) → drops call before after ≤ before .count
+drops-most : (call : Call) (before after : Core) → drops call before after ≤ before .count
 drops-most (decode guess) before after = omega arith
 drops-most (issue position) before after = omega arith
 drops-most (complete position) before after = omega arith
@@ -78,13 +78,13 @@ drops-most commit before after = at (eqb (after .halt .cause) 0)
     at true = omega arith
     at false = omega arith
 
-steals-most : (call : Call) (before : Machine) → steals call before ≤ 1
+steals-most : (call : Call) (before : Core) → steals call before ≤ 1
 steals-most (decode guess) before = omega arith
 steals-most (issue position) before = omega arith
 steals-most (complete position) before = one-most (needsRegister before position && noneFree before)
 steals-most commit before = omega arith
 
-counts-most : (limit : ℕ) (call : Call) (before after : Machine) (c : Counts) (b : Bool) → before .count ≤ 64 → Small limit c → Small (limit + 64) (choose b (accepting call before after c) (refusing c))
+counts-most : (limit : ℕ) (call : Call) (before after : Core) (c : Counts) (b : Bool) → before .count ≤ 64 → Small limit c → Small (limit + 64) (choose b (accepting call before after c) (refusing c))
 counts-most limit call before after c true l s =
     record {
       accepted = let a = s .accepted in omega arith;
@@ -103,34 +103,34 @@ counts-most limit call before after c false l s =
     }
 
 -- before an event, or after the last: so many records may be left, and the next is at an index
-pub record Going (program memory schedule : List ℕ) (left index : ℕ) (m : Machine) (bytes : List ℕ) (counts : Counts) : Type 0 where
-  pub rest : playedAll program (eventsFrom left schedule index) (record { world = record { machine = m; memory = bytes }; counts = counts }) ≡ playedOf program memory schedule
+pub record Going (program memory schedule : List ℕ) (left index : ℕ) (m : Core) (bytes : List ℕ) (counts : Counts) : Type 0 where
+  pub rest : playedAll program (eventsFrom left schedule index) (record { world = record { core = m; memory = bytes }; counts = counts }) ≡ playedOf program memory schedule
   pub commits : ℕ
-  pub reached : Reached program (origin memory) commits (record { machine = m; memory = bytes })
+  pub reached : Reached program (origin memory) commits (record { core = m; memory = bytes })
   pub met : List ℕ
   pub chain : chainRefusal left schedule met index ≡ 0
   pub most : left ≤ records schedule
   pub small : Small ((records schedule - left) * 64) counts
 
-pub begins : (program memory schedule : List ℕ) (m : Machine) (index : ℕ) → Ready m program memory schedule → index ≡ firstIndex schedule → Going program memory schedule (records schedule) index m memory noCounts
+pub begins : (program memory schedule : List ℕ) (m : Core) (index : ℕ) → Ready m program memory schedule → index ≡ firstIndex schedule → Going program memory schedule (records schedule) index m memory noCounts
 unfolding playedOf
 begins program memory schedule m index ready e =
     record {
       rest = rw (e, ready .fresh);
       commits = 0;
-      reached = subst (λ (x : Machine). Reached program (origin memory) 0 (record { machine = x; memory = memory })) (sym (ready .fresh)) (started-reached _ _ program memory (ready .accepted));
+      reached = subst (λ (x : Core). Reached program (origin memory) 0 (record { core = x; memory = memory })) (sym (ready .fresh)) (started-reached _ _ program memory (ready .accepted));
       met = [];
       chain = rw e (ready .chain);
       most = omega arith;
       small = record { accepted = omega arith; refused = omega arith; committed = omega arith; steals = omega arith; dropped = omega arith };
     }
 
-module _ {program memory schedule : List ℕ} {left index : ℕ} {m : Machine} {bytes : List ℕ} {counts : Counts} (g : Going program memory schedule left index m bytes counts) where
+module _ {program memory schedule : List ℕ} {left index : ℕ} {m : Core} {bytes : List ℕ} {counts : Counts} (g : Going program memory schedule left index m bytes counts) where
   abbrev here : Played
-  here = record { world = record { machine = m; memory = bytes }; counts = counts }
+  here = record { world = record { core = m; memory = bytes }; counts = counts }
 
   abbrev w : World
-  w = record { machine = m; memory = bytes }
+  w = record { core = m; memory = bytes }
 
   pub ends : left ≡ 0 → here ≡ playedOf program memory schedule
   ends z = sym (ap (λ (n : ℕ). playedAll program (eventsFrom n schedule index) here) z ∙ playing-none program schedule index here) ∙ g .rest
@@ -181,12 +181,12 @@ module _ {program memory schedule : List ℕ} {left index : ℕ} {m : Machine} {
 
     -- the event was made
     pub goes-on : (r : Record) → r ≡ recordAt schedule index → (p : Played) → p ≡ played program r here
-        → Going program memory schedule (left - 1) (r .next) (p .world .machine) (p .world .memory) (p .counts)
+        → Going program memory schedule (left - 1) (r .next) (p .world .core) (p .world .memory) (p .counts)
     unfolding played
     goes-on r at p e =
         let made : Made = make program (own (callBy r)) w in
         let same : p .world ≡ made .world = ap (λ (x : Played). x .world) e in
-        let added = counts-most ((records schedule - left) * 64) (callBy r) m (made .world .machine) counts (eqb (made .number) 0) few (g .small) in
+        let added = counts-most ((records schedule - left) * 64) (callBy r) m (made .world .core) counts (eqb (made .number) 0) few (g .small) in
         record {
           rest = ap (playedAll program (eventsFrom (left - 1) schedule (r .next))) e
               ∙ ap (λ (x : Record). playedAll program (eventsFrom (left - 1) schedule (x .next)) (played program x here)) at
@@ -198,5 +198,5 @@ module _ {program memory schedule : List ℕ} {left index : ℕ} {m : Machine} {
           chain = ap (λ (x : Record). chainRefusal (left - 1) schedule (index ∷ g .met) (x .next)) at ∙ chain-on (left - 1) schedule (g .met) index some chained;
           most = let l = g .most in omega arith;
           small = subst (Small ((records schedule - (left - 1)) * 64)) (sym (ap (λ (x : Played). x .counts) e))
-              (subst (λ (n : ℕ). Small n (choose (eqb (made .number) 0) (accepting (callBy r) m (made .world .machine) counts) (refusing counts))) (let l = g .most in omega arith) added);
+              (subst (λ (n : ℕ). Small n (choose (eqb (made .number) 0) (accepting (callBy r) m (made .world .core) counts) (refusing counts))) (let l = g .most in omega arith) added);
         }

@@ -11,9 +11,9 @@ use Rattle.tables.specs.Table.{lookUnder, lookUp, storeUnder}
 use Rattle.tables.specs.Entry.{emptyEntry, completedEntry, predictedEntry, waitingEntry, sleepEntry, wakeEntry}
 use Rattle.tables.specs.declared.Entry.{Entry}
 use Rattle.tables.proofs.TableLaws.{store-length}
-use Rattle.machine.specs.Setters.{withEntries, withMap, withPhysical, withValues, withFetch}
-use Rattle.machine.specs.Changes.{entryAt, place, changeFirst, changeAll, mapsLearn, takeRegister}
-use Rattle.machine.specs.declared.Machine.{Machine}
+use Rattle.core.specs.Setters.{withEntries, withMap, withPhysical, withValues, withFetch}
+use Rattle.core.specs.Changes.{entryAt, place, changeFirst, changeAll, mapsLearn, takeRegister}
+use Rattle.core.specs.declared.Core.{Core}
 use Rattle.stealing.specs.Steal.{robbed}
 use Rattle.stealing.proofs.StealLaws.{robbed-is}
 use Rattle.completing.specs.Complete.{learned}
@@ -23,16 +23,16 @@ use Rattle.turns.proofs.EntryLaws.{change-set, change-twice, change-lat
 
 -- the completed entry is stored with its new prediction before the other entries change
 module _ (f : Entry → Entry) (next n : ℕ) (order : (x : Entry) → f (predictedEntry next x) ≡ predictedEntry next (f x)) (stays : (x : Entry) → f x .predicted ≡ x .predicted)
-    (entries : List Entry) (done : Entry) (m x : Machine) (is : m .entries ≡ changeFirst (m .count) f (set entries n done)) (same : m ≡ x) (there : n < m .count) (room : n < length entries) where
+    (entries : List Entry) (done : Entry) (m x : Core) (is : m .entries ≡ changeFirst (m .count) f (set entries n done)) (same : m ≡ x) (there : n < m .count) (room : n < length entries) where
   pub finish-entries : (fetch : ℕ) → withFetch fetch (withEntries (changeFirst (m .count) f (set entries n (predictedEntry next done))) m) ≡ withFetch fetch (place n (predictedEntry next (entryAt x n)) x)
   finish-entries fetch =
       ap (λ (l : List Entry). withFetch fetch (withEntries l m)) (change-late f (predictedEntry next) order (m .count) n entries done there room)
       ∙ ap (λ (l : List Entry). withFetch fetch (withEntries (set l n (predictedEntry next (getD l n emptyEntry))) m)) (sym is)
-      ∙ ap (λ (k : Machine). withFetch fetch (place n (predictedEntry next (entryAt k n)) k)) same
+      ∙ ap (λ (k : Core). withFetch fetch (place n (predictedEntry next (entryAt k n)) k)) same
 
   pub finish-predicted : entryAt x n .predicted ≡ done .predicted
   finish-predicted =
-      ap (λ (k : Machine). entryAt k n .predicted) (sym same)
+      ap (λ (k : Core). entryAt k n .predicted) (sym same)
       ∙ ap (λ (l : List Entry). getD l n emptyEntry .predicted) is
       ∙ ap (λ (e : Entry). e .predicted) (changed-at f (m .count) (set entries n done) n there (rw (length-set entries n done) room))
       ∙ stays (getD (set entries n done) n emptyEntry)
@@ -44,16 +44,16 @@ learnt-length true table n value = store-length table n value
 learnt-length false table n value = refl
 
 -- an empty pool stays as it is
-none-taken : (m : Machine) → m .registerhead ≡ 0 → takeRegister m ≡ m
+none-taken : (m : Core) → m .registerhead ≡ 0 → takeRegister m ≡ m
 unfolding lookUnder storeUnder
 none-taken m h = rw h
 
-robbed-values : (victim : ℕ) (m : Machine) → m .values ≡ robbed victim m .values
+robbed-values : (victim : ℕ) (m : Core) → m .values ≡ robbed victim m .values
 unfolding robbed
 robbed-values victim m = refl
 
 -- the entry completes in a machine in which it looks like this
-learned-at : (n register result : ℕ) (m : Machine) (e : Entry) → entryAt m n ≡ e
+learned-at : (n register result : ℕ) (m : Core) (e : Entry) → entryAt m n ≡ e
     → learned n register result m
     ≡ changeAll (wakeEntry (e .name) register)
     (mapsLearn (e .destination) (e .name) register true (withValues (storeUnder (m .values) register result) (takeRegister (place n (completedEntry result e) m))))
@@ -61,7 +61,7 @@ unfolding learned
 learned-at n register result m e h = rw h
 
 -- a theft: the victim waits again, and the entry completes with its register
-module _ (m : Machine) (kept : Kept m) (n victim register result : ℕ) (there : n < m .count) (holds : victim < m .count) (other : n ≡ victim → ⊥) (none : m .registerhead ≡ 0) where
+module _ (m : Core) (kept : Kept m) (n victim register result : ℕ) (there : n < m .count) (holds : victim < m .count) (other : n ≡ victim → ⊥) (none : m .registerhead ≡ 0) where
   abbrev owner : Entry
   owner = entryAt m victim
 
@@ -91,13 +91,13 @@ module _ (m : Machine) (kept : Kept m) (n victim register result : ℕ) (there :
   stolen-is lostregister newregister lostphysical newphysical values lostvalid newvalid a b c d f g h =
       let asleep : Entry = sleepEntry (owner .name) e in
       let before : List Entry = set (m .entries) victim (waitingEntry owner) in
-      let left : Machine = withEntries (changeFirst (m .count) (sleepEntry (owner .name)) before) (withMap (m .mapname) lostregister lostvalid (withPhysical lostphysical m)) in
-      let teach : Machine → Machine = λ k. changeAll (wakeEntry (e .name) register) (mapsLearn (e .destination) (e .name) register true (withValues (storeUnder (m .values) register result) k)) in
+      let left : Core = withEntries (changeFirst (m .count) (sleepEntry (owner .name)) before) (withMap (m .mapname) lostregister lostvalid (withPhysical lostphysical m)) in
+      let teach : Core → Core = λ k. changeAll (wakeEntry (e .name) register) (mapsLearn (e .destination) (e .name) register true (withValues (storeUnder (m .values) register result) k)) in
       ap (λ (entries : List Entry). withEntries entries (withMap (m .mapname) newregister newvalid (withPhysical newphysical (withValues values m))))
       (sym (change-twice (sleepEntry (owner .name)) (wakeEntry (e .name) register) (m .count) (set before n (completedEntry result e)))
       ∙ ap (changeFirst (m .count) (wakeEntry (e .name) register)) (change-set (sleepEntry (owner .name)) (m .count) n before (completedEntry result e) there))
       ∙ learnt (changeFirst (m .count) (wakeEntry (e .name) register) (set (changeFirst (m .count) (sleepEntry (owner .name)) before) n (completedEntry result asleep))) lostregister newregister lostphysical newphysical values lostvalid newvalid d f g h
       ∙ ap teach (sym (none-taken (place n (completedEntry result asleep) left) none))
-      ∙ ap (λ (k : Machine). teach (takeRegister (place n (completedEntry result asleep) k))) (robbed-is m victim (waitingEntry owner) (lookUp (m .mapname) (owner .destination)) lostregister lostphysical lostvalid refl refl a b c)
+      ∙ ap (λ (k : Core). teach (takeRegister (place n (completedEntry result asleep) k))) (robbed-is m victim (waitingEntry owner) (lookUp (m .mapname) (owner .destination)) lostregister lostphysical lostvalid refl refl a b c)
       ∙ ap (λ (l : List ℕ). changeAll (wakeEntry (e .name) register) (mapsLearn (e .destination) (e .name) register true (withValues (storeUnder l register result) (takeRegister (place n (completedEntry result asleep) (robbed victim m)))))) (robbed-values victim m)
       ∙ sym (learned-at n register result (robbed victim m) asleep (robbed-entry victim n m kept there other))

@@ -13,9 +13,9 @@ use Rattle.tables.specs.Operand.{isReady}
 use Rattle.tables.specs.Entry.{isWaiting, isIssued, isCompleted}
 use Rattle.tables.specs.declared.Entry.{Entry}
 use Rattle.formats.specs.declared.Record.{Record}
-use Rattle.machine.specs.Call.{halted, noEntry}
-use Rattle.machine.specs.Changes.{entryAt}
-use Rattle.machine.specs.declared.Machine.{Machine}
+use Rattle.core.specs.Call.{halted, noEntry}
+use Rattle.core.specs.Changes.{entryAt}
+use Rattle.core.specs.declared.Core.{Core}
 use Rattle.decoding.specs.Decode.{decodeRefusal}
 use Rattle.issuing.specs.Issue.{storeBelow, issueRefusal}
 use Rattle.issuing.proofs.IssueLaws as Issuing
@@ -33,13 +33,13 @@ use Rattle.turns.specs.declared.Ending.the-variants.{Stops, WithoutDesti
 use Rattle.turns.specs.Ways.{placeOf, issueWay, commitWay, wayOf, endingOf}
 
 -- the refusals 10 to 16 of a call
-abbrev pub refusalBy : Call → Machine → ℕ
+abbrev pub refusalBy : Call → Core → ℕ
 refusalBy (decode guess) m = decodeRefusal m
 refusalBy (issue position) m = issueRefusal position m
 refusalBy (complete position) m = completeRefusal position m
 refusalBy commit m = commitRefusal m
 
-refused-halted : (call : Call) (m : Machine) → halted m ≡ true → 10 ≡ refusalBy call m
+refused-halted : (call : Call) (m : Core) → halted m ≡ true → 10 ≡ refusalBy call m
 unfolding decodeRefusal first
 refused-halted (decode guess) m h = rw h
 refused-halted (issue position) m h = Issuing.refused-halted position m h
@@ -60,7 +60,7 @@ by-test P true x y h k = h refl
 by-test P false x y h k = k refl
 
 -- an event of a machine, and the place that it looks at
-module _ (r : Record) (m : Machine) (n : ℕ) where
+module _ (r : Record) (m : Core) (n : ℕ) where
   abbrev e : Entry
   e = entryAt m n
 

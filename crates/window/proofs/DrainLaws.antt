@@ -7,17 +7,17 @@ use native.Mathlib.Omega.{arith}
 use native.Mathlib.Numerals.{add-one}
 use borrow.Author.Tests.{eq-eqb, ne-eqb}
 use Rattle.tables.specs.declared.State.the-variants.{Waits, Issued, Completed}
-use Rattle.machine.specs.declared.Machine.{Machine}
-use Rattle.machine.specs.declared.Answer.{Answer}
-use Rattle.machine.specs.Call.{lentRefusal}
-use Rattle.machine.specs.Changes.{entryAt}
+use Rattle.core.specs.declared.Core.{Core}
+use Rattle.core.specs.declared.Answer.{Answer}
+use Rattle.core.specs.Call.{lentRefusal}
+use Rattle.core.specs.Changes.{entryAt}
 use Rattle.issuing.specs.Issue.{issueOf}
 use Rattle.completing.specs.Complete.{completeOf}
 use Rattle.committing.specs.Commit.{Commit, commitOf}
 use Rattle.window.specs.Drain.{neededOf, drainEnds, idle, drainFrom, drainOf}
 
 -- the call that position 0 needs, by its state
-module _ (program memory : List ℕ) (m : Machine) where
+module _ (program memory : List ℕ) (m : Core) where
   pub needs-issue : entryAt m 0 .state ≡ Waits → (r : Answer) → r ≡ issueOf program memory 0 m → neededOf program memory m ≡ record { answer = r; memory = memory }
   needs-issue s r e = rw (s, e)
 
@@ -28,7 +28,7 @@ module _ (program memory : List ℕ) (m : Machine) where
   needs-commit s = rw s
 
 -- one call of at most budget, after some
-module _ (budget calls : ℕ) (program memory : List ℕ) (m : Machine) where
+module _ (budget calls : ℕ) (program memory : List ℕ) (m : Core) where
   pub drain-over : budget ≤ calls → drainFrom (budget - calls) program memory m calls ≡ drainEnds memory m calls 0
   unfolding drainFrom
   drain-over h = let n : budget - calls ≡ 0 = omega arith in rw n
@@ -42,16 +42,16 @@ module _ (budget calls : ℕ) (program memory : List ℕ) (m : Machine) where
     drain-idle i = rw (left, i)
 
     pub drain-refused : idle m ≡ false → (made : Commit) → neededOf program memory m ≡ made → (made .answer .number ≡ 0 → ⊥)
-        → drainFrom (budget - calls) program memory m calls ≡ drainEnds (made .memory) (made .answer .machine) calls (made .answer .number)
+        → drainFrom (budget - calls) program memory m calls ≡ drainEnds (made .memory) (made .answer .core) calls (made .answer .number)
     unfolding drainFrom
     drain-refused i made e z = rw (left, i, e, ne-eqb (made .answer .number) 0 z)
 
     pub drain-goes : idle m ≡ false → (made : Commit) → neededOf program memory m ≡ made → made .answer .number ≡ 0
-        → drainFrom (budget - (calls + 1)) program (made .memory) (made .answer .machine) (calls + 1) ≡ drainFrom (budget - calls) program memory m calls
+        → drainFrom (budget - (calls + 1)) program (made .memory) (made .answer .core) (calls + 1) ≡ drainFrom (budget - calls) program memory m calls
     unfolding drainFrom
     drain-goes i made e z = rw (left, i, e, eq-eqb (made .answer .number) 0 z, add-one calls)
 
-module _ (program memory : List ℕ) (m : Machine) where
+module _ (program memory : List ℕ) (m : Core) where
   pub drain-lent : lentRefusal m program memory ≡ 0 → drainOf program memory m ≡ drainFrom (3 * m .count) program memory m 0
   unfolding drainOf
   drain-lent e = rw (eq-eqb (lentRefusal m program memory) 0 e)

@@ -4,26 +4,26 @@ ghost use Prim.Native.Nat.{_*_};
 ghost use Rattle.window.specs.Drain as Drain;
 ghost use Rattle.window.specs.Handed as Handed;
 use crate::Answer;
-use crate::Core;
 use crate::Drained;
+use crate::Machine;
 use tables::State;
 
-impl Core {
+impl Machine {
     // no entry is left, or the machine halted
     fn is_idle(self) -> bool
-        ensures { λ r. ⌜ r ≡ Drain.idle (self .machine) ⌝ }
+        ensures { λ r. ⌜ r ≡ Drain.idle (self .core) ⌝ }
     {
-        let machine = self.machine;
-        let halt = machine.halt;
-        (machine.count == 0) | (halt.cause != 0)
+        let core = self.core;
+        let halt = core.halt;
+        (core.count == 0) | (halt.cause != 0)
     }
 
     // the call that position 0 needs next
     fn needed(self, program: &[u8], data: &mut [u8]) -> Answer
-        ensures { λ r. ⌜ Drain.neededOf (now (program .entry)) (now («data» .entry)) (self .machine) ≡ record { answer = Handed.answer r; memory = now («data» .exit) } ⌝ }
+        ensures { λ r. ⌜ Drain.neededOf (now (program .entry)) (now («data» .entry)) (self .core) ≡ record { answer = Handed.answer r; memory = now («data» .exit) } ⌝ }
     {
-        let machine = self.machine;
-        let e = machine.entries[0];
+        let core = self.core;
+        let e = core.entries[0];
         let state = e.state;
         match state {
             State::Waits => self.issue(program, data, 0),
@@ -34,23 +34,23 @@ impl Core {
 
     // at most so many calls
     fn drain_by(mut self, program: &[u8], data: &mut [u8], budget: u8) -> Drained
-        ensures { λ r. ⌜ Drain.drainFrom budget (now (program .entry)) (now («data» .entry)) (self .machine) 0 ≡ Handed.drained r (now («data» .exit)) ⌝ }
+        ensures { λ r. ⌜ Drain.drainFrom budget (now (program .entry)) (now («data» .entry)) (self .core) 0 ≡ Handed.drained r (now («data» .exit)) ⌝ }
     {
         let mut calls: u8 = 0;
         while calls < budget {
             if self.is_idle() {
                 return Drained {
-                    core: self,
+                    machine: self,
                     calls,
                     number: 0,
                 };
             }
             let answer = self.needed(program, data);
-            let next = answer.core;
+            let next = answer.machine;
             self = next;
             if answer.number != 0 {
                 return Drained {
-                    core: self,
+                    machine: self,
                     calls,
                     number: answer.number,
                 };
@@ -58,7 +58,7 @@ impl Core {
             calls += 1;
         }
         Drained {
-            core: self,
+            machine: self,
             calls,
             number: 0,
         }
@@ -66,18 +66,18 @@ impl Core {
 
     // Commits the entries one by one, until none is left or the machine halts; ends at a refused call with its number.
     pub fn drain(self, program: &[u8], data: &mut [u8]) -> Drained
-        ensures { λ r. ⌜ Drain.drainOf (now (program .entry)) (now («data» .entry)) (self .machine) ≡ Handed.drained r (now («data» .exit)) ⌝ }
+        ensures { λ r. ⌜ Drain.drainOf (now (program .entry)) (now («data» .entry)) (self .core) ≡ Handed.drained r (now («data» .exit)) ⌝ }
     {
-        let machine = self.machine;
-        let number = machine.lent_refusal(program, data);
+        let core = self.core;
+        let number = core.lent_refusal(program, data);
         if number != 0 {
             return Drained {
-                core: self,
+                machine: self,
                 calls: 0,
                 number,
             };
         }
-        let budget = 3 * machine.count;
+        let budget = 3 * core.count;
         self.drain_by(program, data, budget)
     }
 }

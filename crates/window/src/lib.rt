@@ -2,22 +2,22 @@
 pub mod calling;
 pub mod draining;
 
-use machine::Machine;
+use core::Core;
 
 // The core: a machine, with the calls as its methods.
-pub struct Core {
-    pub machine: Machine,
+pub struct Machine {
+    pub core: Core,
 }
 
 // The core after a call, with 0 or a refusal.
 pub struct Answer {
-    pub core: Core,
+    pub machine: Machine,
     pub number: u8,
 }
 
 // The core after a drain, how many calls were accepted, and 0 or the refusal that ended it.
 pub struct Drained {
-    pub core: Core,
+    pub machine: Machine,
     pub calls: u8,
     pub number: u8,
 }

@@ -8,8 +8,8 @@ use Rattle.isa.specs.Reads.{instruction}
 use Rattle.isa.specs.Encodes.{wordOf}
 use Rattle.tables.specs.Table.{lookUp}
 use Rattle.tables.specs.Entry.{stateNumber}
-use Rattle.machine.specs.SetUp.{setUpOf}
-use Rattle.machine.specs.Changes.{entryAt}
+use Rattle.core.specs.SetUp.{setUpOf}
+use Rattle.core.specs.Changes.{entryAt}
 use Rattle.agreement.specs.Lists.{Call, decode, issue, complete, commit, own, World, Made, make, makeAll}
 
 -- ADDI x1, x0, 1 and ADDI x2, x0, 2
@@ -18,7 +18,7 @@ twoAddi = put (put (replicate 8 0) 0 4 (wordOf (instruction 19 1 0 0 (pos 1)))) 
 
 -- the machine of the set-up; there are no data
 abbrev pub begun : World
-begun = record { machine = setUpOf 2 32 (length twoAddi) 0 .machine; memory = [] }
+begun = record { core = setUpOf 2 32 (length twoAddi) 0 .core; memory = [] }
 
 -- the machine, with the data, after these calls
 abbrev pub after : List Call → World
@@ -38,22 +38,22 @@ answers calls = answersFrom begun calls
 
 -- the register that the physical map gives the name of the entry at a position, 0 for none
 abbrev pub registerAt : ℕ → World → ℕ
-registerAt position w = lookUp (w .machine .physical) (entryAt (w .machine) position .name)
+registerAt position w = lookUp (w .core .physical) (entryAt (w .core) position .name)
 
 -- its destination
 abbrev pub destinationAt : ℕ → World → ℕ
-destinationAt position w = entryAt (w .machine) position .destination
+destinationAt position w = entryAt (w .core) position .destination
 
 -- its state: 0 waiting, 1 issued, 2 completed
 abbrev pub stateAt : ℕ → World → ℕ
-stateAt position w = stateNumber (entryAt (w .machine) position .state)
+stateAt position w = stateNumber (entryAt (w .core) position .state)
 
 -- the register that would be taken next, 0 from an empty pool
 abbrev pub freeRegister : World → ℕ
-freeRegister w = w .machine .registerhead
+freeRegister w = w .core .registerhead
 
 abbrev pub nextAddress : World → ℕ
-nextAddress w = w .machine .next
+nextAddress w = w .core .next
 
 -- two instructions that wait to be completed
 abbrev pub bothIssued : List Call

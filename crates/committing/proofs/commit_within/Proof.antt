@@ -1,8 +1,8 @@
 use mathlib.Core.Path.{sym, _∙_}
 use denote.Ref.{now}
 use Rattle.committing.specs.Commit.{commitRefusal, commitWithin}
-use Rattle.machine.proofs.ReportLaws.{in-range-count}
-use Rattle.machine.proofs.OperationLaws.{in-range-operation}
+use Rattle.core.proofs.ReportLaws.{in-range-count}
+use Rattle.core.proofs.OperationLaws.{in-range-operation}
 use Rattle.committing.proofs.CommitLaws.{has-entry, commit-refused, commit-halts, commit-retires}
 use borrow.Author.Needs.{needs}
 use Rattle.committing.proofs.commit_within.Statement.{statement}

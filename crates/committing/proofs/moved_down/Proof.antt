@@ -5,9 +5,9 @@ use mathlib.Core.List.{List}
 use native.Mathlib.Omega.{arith}
 use lib.ListN.{length}
 use Rattle.tables.specs.declared.Entry.{Entry}
-use Rattle.machine.specs.Setters.{withEntries}
+use Rattle.core.specs.Setters.{withEntries}
 use Rattle.committing.proofs.CommitLaws.{shifted, shifted-none, shift-turn, shift-done}
-use Rattle.machine.proofs.ChangeLaws.{length-mapped}
+use Rattle.core.proofs.ChangeLaws.{length-mapped}
 use Rattle.committing.proofs.moved_down.Statement.{statement}
 use Rattle.committing.proofs.moved_down.Tie as tie
 
@@ -80,7 +80,7 @@ loop-again c =
     let below = (c .before) .loop-test .taken in
     let most = s .pre .1 in
     let long = entries-long s in
-    (omega arith, shift-turn (s .args .t1) (l .machine) (l .k) (omega arith) (l .inv .1))
+    (omega arith, shift-turn (s .args .t1) (l .core) (l .k) (omega arith) (l .inv .1))
 
 empty-requires : tie.Need-empty-requires Inv-loop μ-loop
 empty-requires c κs = search needs
@@ -106,7 +106,7 @@ returns c =
     let most = s .pre .1 in
     let long = entries-long s in
     let whole = l .inv .1 ∙ ap (λ (k : ℕ). withEntries (shifted k (m .entries)) m) last in
-    shift-done m (l .machine) (m .count - 1) (c .empty .result) (s .pre .0) refl (omega arith) whole (c .empty .ensures)
+    shift-done m (l .core) (m .count - 1) (c .empty .result) (s .pre .0) refl (omega arith) whole (c .empty .ensures)
 
 pub moved-down-spec : {M : Type 1} → statement M
 moved-down-spec =

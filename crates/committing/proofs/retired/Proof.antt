@@ -1,6 +1,6 @@
 use mathlib.Core.Path.{ap}
 use native.Mathlib.Omega.{arith}
-use Rattle.machine.specs.declared.Machine.{Machine}
+use Rattle.core.specs.declared.Core.{Core}
 use Rattle.committing.proofs.CommitLaws.{retired-is}
 use borrow.Author.Needs.{needs}
 use Rattle.committing.proofs.retired.Statement.{statement}
@@ -26,7 +26,7 @@ moved-down-requires c κs = search needs
 
 sub-left : tie.Need-sub-left
 sub-left c =
-    let n = ap (λ (m : Machine). m .count) ((c .before) .moved-down .ensures) in
+    let n = ap (λ (m : Core). m .count) ((c .before) .moved-down .ensures) in
     omega (arith, n, (c .before .before .before .before .before .before .before .before .before .before .before .before) .pre .0)
 
 returns : tie.Need-returns

@@ -2,10 +2,10 @@ use mathlib.Core.Path.{ap, _∙_}
 use native.Mathlib.Omega.{arith}
 use Rattle.execution.specs.declared.Outcome.{Outcome}
 use Rattle.tables.specs.declared.Entry.{Entry}
-use Rattle.machine.specs.declared.Machine.{Machine}
-use Rattle.machine.specs.Changes.{place}
+use Rattle.core.specs.declared.Core.{Core}
+use Rattle.core.specs.Changes.{place}
 use Rattle.completing.specs.Complete.{registered, redirected, finished}
-use Rattle.machine.proofs.ReportLaws.{in-range-count}
+use Rattle.core.proofs.ReportLaws.{in-range-count}
 use Rattle.completing.proofs.CompleteLaws.{registered-count, finish-stops, finish-goes}
 use borrow.Author.Needs.{needs}
 use Rattle.completing.proofs.completed.Statement.{statement}
@@ -48,7 +48,7 @@ registered-requires c κs =
 redirected-requires : tie.Need-redirected-requires
 redirected-requires c κs =
     let s = c .before .before .before .before .before in
-    let n = ap (λ (m : Machine). m .count) (c .registered .ensures) ∙ registered-count (s .args .position) ((c .before .before .before .before) .outcome-at .result .result) (s .args .t1) in
+    let n = ap (λ (m : Core). m .count) (c .registered .ensures) ∙ registered-count (s .args .position) ((c .before .before .before .before) .outcome-at .result .result) (s .args .t1) in
     (omega (arith, n, s .pre .1), omega (arith, n, in-range-count (s .args .t1) (s .pre .0)))
 
 returns-2 : tie.Need-returns-2

@@ -1,6 +1,6 @@
 use native.Mathlib.Omega.{arith}
-use Rattle.machine.proofs.ReportLaws.{in-range-count}
-use Rattle.machine.proofs.OperationLaws.{in-range-operation}
+use Rattle.core.proofs.ReportLaws.{in-range-count}
+use Rattle.core.proofs.OperationLaws.{in-range-operation}
 use borrow.Author.Needs.{needs}
 use Rattle.completing.proofs.outcome_at.Statement.{statement}
 use Rattle.completing.proofs.outcome_at.Tie as tie

@@ -3,8 +3,8 @@ use native.Mathlib.Omega.{arith}
 use Prim.Native.Nat.{ℕ, _<_}
 use Rattle.tables.specs.Entry.{held}
 use Rattle.tables.specs.declared.Entry.{Entry}
-use Rattle.machine.specs.declared.Machine.{Machine}
-use Rattle.machine.specs.Changes.{entryAt, place}
+use Rattle.core.specs.declared.Core.{Core}
+use Rattle.core.specs.Changes.{entryAt, place}
 use Rattle.completing.specs.Complete.{learned}
 use Rattle.stealing.specs.Steal.{victimOf, robbed}
 use Rattle.completing.proofs.CompleteLaws.{without-register, free-register, stolen-register}
@@ -14,7 +14,7 @@ use Rattle.completing.proofs.registered.Statement.{statement}
 use Rattle.completing.proofs.registered.Tie as tie
 
 -- the victim is an entry
-victim-inside : (m : Machine) (position victim : ℕ) → position < m .count → victim ≡ victimOf m position → victim < m .count
+victim-inside : (m : Core) (position victim : ℕ) → position < m .count → victim ≡ victimOf m position → victim < m .count
 victim-inside m position victim h e = omega (arith, e, victim-within m position h)
 
 mul-e : tie.Need-mul-e
@@ -73,7 +73,7 @@ robbed-requires c κs =
 learned-requires-2 : tie.Need-learned-requires-2
 learned-requires-2 c κs =
     let s = c .before .before .before .before .before .before .before .before .before .before in
-    let n = ap (λ (m : Machine). m .count) (c .robbed .ensures) ∙ robbed-count ((c .before .before .before .before .before) .victim .result) (s .args .t1) in
+    let n = ap (λ (m : Core). m .count) (c .robbed .ensures) ∙ robbed-count ((c .before .before .before .before .before) .victim .result) (s .args .t1) in
     (omega (arith, n, s .pre .0), omega (arith, n, s .pre .1))
 
 returns-3 : tie.Need-returns-3
@@ -82,7 +82,7 @@ returns-3 c =
     let m = a .t1 in
     let v = (c .before .before .before .before .before .before) .victim .ensures in
     c .learned2 .ensures
-    ∙ ap (λ (k : Machine). learned (a .position) ((c .before .before) .held .result) (a .result) k) ((c .before) .robbed .ensures)
+    ∙ ap (λ (k : Core). learned (a .position) ((c .before .before) .held .result) (a .result) k) ((c .before) .robbed .ensures)
     ∙ ap (λ (r : ℕ). learned (a .position) r (a .result) (robbed ((c .before .before .before .before .before .before) .victim .result) m)) ((c .before .before) .held .ensures)
     ∙ ap (λ (j : ℕ). learned (a .position) (held (m .physical) (entryAt m j)) (a .result) (robbed j m)) v
     ∙ stolen-register (a .position) (a .result) m ((c .before .before .before .before .before .before .before .before) .if1 .left) ((c .before .before .before .before .before .before .before) .if2 .left)

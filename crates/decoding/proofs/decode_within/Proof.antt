@@ -2,9 +2,9 @@ use mathlib.Core.Path.{sym, ap, _∙_}
 use native.Mathlib.Omega.{arith}
 use denote.Ref.{now}
 use Rattle.tables.specs.declared.Entry.{Entry}
-use Rattle.machine.specs.declared.Machine.{Machine}
+use Rattle.core.specs.declared.Core.{Core}
 use Rattle.decoding.specs.Decode.{decodeRefusal, enter, decoded, decodeWithin}
-use Rattle.machine.proofs.RefusalLaws.{answered-refused, answered-next}
+use Rattle.core.proofs.RefusalLaws.{answered-refused, answered-next}
 use Rattle.decoding.proofs.DecodeLaws.{refusal-is, has-place}
 use borrow.Author.Needs.{needs}
 use Rattle.decoding.proofs.decode_within.Statement.{statement}
@@ -34,7 +34,7 @@ unfolding decodeWithin
 returns-2 c =
     let a = (c .before .before .before .before .before .before .before .before .before .before .before) .args in
     let m = a .t1 in
-    ap (λ (k : Machine). record { machine = k; number = 0 }) (c .enter .ensures ∙ ap (λ (e : Entry). enter e m) ((c .before) .entry-for .ensures))
+    ap (λ (k : Core). record { core = k; number = 0 }) (c .enter .ensures ∙ ap (λ (e : Entry). enter e m) ((c .before) .entry-for .ensures))
     ∙ answered-next m (decoded (now (a .program)) (a .guess) m) (decodeRefusal m) (sym ((c .before .before .before .before .before .before .before) .refusal .ensures ∙ refusal-is m) ∙ (c .before .before .before .before .before .before) .if1 .left)
 
 pub decode-within-spec : {M : Type 1} → statement M

@@ -1,7 +1,7 @@
 use mathlib.Core.Path.{ap}
 use native.Mathlib.Omega.{arith}
 use native.Mathlib.Numerals.{add-one}
-use Rattle.machine.specs.declared.Machine.{Machine}
+use Rattle.core.specs.declared.Core.{Core}
 use Rattle.decoding.proofs.DecodeLaws.{entered}
 use borrow.Author.Needs.{needs}
 use Rattle.decoding.proofs.enter.Statement.{statement}
@@ -18,16 +18,16 @@ mul-e c = search needs
 
 element-set-from-e : tie.Need-element-set-from-e
 element-set-from-e c =
-    omega (arith, ap (λ (m : Machine). m .count) (c .renamed .ensures), (c .before) .pre)
+    omega (arith, ap (λ (m : Core). m .count) (c .renamed .ensures), (c .before) .pre)
 
 add-entered : tie.Need-add-entered
 add-entered c =
-    omega (arith, ap (λ (m : Machine). m .count) (c .renamed .ensures), (c .before) .pre)
+    omega (arith, ap (λ (m : Core). m .count) (c .renamed .ensures), (c .before) .pre)
 
 returns : tie.Need-returns
 returns c =
     let a = (c .before) .args in
-    rw add-one (entered (a .machine) (c .renamed .result) (a .e) (c .renamed .ensures))
+    rw add-one (entered (a .core) (c .renamed .result) (a .e) (c .renamed .ensures))
 
 pub enter-spec : {M : Type 1} → statement M
 enter-spec =

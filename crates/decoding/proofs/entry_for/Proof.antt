@@ -3,7 +3,7 @@ use denote.Ref.{now}
 use Rattle.reference.specs.Fetch.{FetchNumbers, fetchNumbers, fetchAt}
 use Rattle.reference.proofs.FetchLaws.{found-small, unfound-cause}
 use Rattle.isa.specs.Reads.{none}
-use Rattle.machine.specs.declared.Machine.{Machine}
+use Rattle.core.specs.declared.Core.{Core}
 use Rattle.decoding.specs.Decode.{endedEntry}
 use Rattle.decoding.specs.Seen.{seen}
 use Rattle.decoding.proofs.DecodeLaws.{entry-none, entry-at-once, entry-waits}
@@ -30,7 +30,7 @@ returns : tie.Need-returns
 returns c =
     let a = (c .before .before .before .before .before .before) .args in
     let program = now (a .program) in
-    let m : Machine = seen (now (a .mapname)) (now (a .mapregister)) (now (a .mapvalid)) (a .head) (a .address) in
+    let m : Core = seen (now (a .mapname)) (now (a .mapregister)) (now (a .mapvalid)) (a .head) (a .address) in
     let told = ap fetchNumbers ((c .before) .enum-told .given .1) in
     let e = sym told ∙ (c .before .before .before .before) .fetch .ensures in
     let cause = (c .before .before .before) .cause-of .ensures ∙ ap (λ (f : FetchNumbers). f .cause) told in
@@ -47,7 +47,7 @@ ended-requires-2 c κs = search needs
 returns-2 : tie.Need-returns-2
 returns-2 c =
     let a = (c .before .before .before .before .before .before .before .before .before) .args in
-    let m : Machine = seen (now (a .mapname)) (now (a .mapregister)) (now (a .mapvalid)) (a .head) (a .address) in
+    let m : Core = seen (now (a .mapname)) (now (a .mapregister)) (now (a .mapvalid)) (a .head) (a .address) in
     let e = sym (ap fetchNumbers ((c .before .before .before .before) .fetched .given .1)) ∙ (c .before .before .before .before .before .before .before) .fetch .ensures in
     let once = (c .before .before) .cause-at-once .ensures in
     c .ended2 .ensures ∙ ap (endedEntry (a .address) _) once ∙ entry-at-once m (fetchAt (now (a .program)) (a .address)) (a .guess) _ e (λ z. (c .before) .if1 .taken (once ∙ z))
@@ -61,7 +61,7 @@ started-requires c κs =
 returns-3 : tie.Need-returns-3
 returns-3 c =
     let a = (c .before .before .before .before .before .before .before .before .before) .args in
-    let m : Machine = seen (now (a .mapname)) (now (a .mapregister)) (now (a .mapvalid)) (a .head) (a .address) in
+    let m : Core = seen (now (a .mapname)) (now (a .mapregister)) (now (a .mapvalid)) (a .head) (a .address) in
     let e = sym (ap fetchNumbers ((c .before .before .before .before) .fetched .given .1)) ∙ (c .before .before .before .before .before .before .before) .fetch .ensures in
     c .started .ensures ∙ entry-waits m (fetchAt (now (a .program)) (a .address)) (a .guess) _ e (sym ((c .before .before) .cause-at-once .ensures) ∙ (c .before) .if1 .left)
 

@@ -2,9 +2,9 @@ use native.Mathlib.Omega.{arith}
 use mathlib.Core.Path.{_≡_, ap}
 use lib.ListN.{length}
 use Rattle.tables.specs.declared.Entry.{Entry}
-use Rattle.machine.specs.Changes.{place}
-use Rattle.machine.proofs.ReportLaws.{in-range-count}
-use Rattle.machine.proofs.OperationLaws.{in-range-operation}
+use Rattle.core.specs.Changes.{place}
+use Rattle.core.proofs.ReportLaws.{in-range-count}
+use Rattle.core.proofs.OperationLaws.{in-range-operation}
 use Rattle.issuing.specs.Issue.{issued}
 use borrow.Author.Needs.{needs}
 use Rattle.issuing.proofs.issued.Statement.{statement}

@@ -6,8 +6,8 @@ use mathlib.Core.Path.{_≡_, ap, _∙_}
 use native.Mathlib.Omega.{arith}
 use Rattle.execution.specs.Roles.{stores}
 use Rattle.issuing.specs.Issue.{storeBelow}
-use Rattle.machine.proofs.ReportLaws.{in-range-count}
-use Rattle.machine.proofs.OperationLaws.{in-range-operation}
+use Rattle.core.proofs.ReportLaws.{in-range-count}
+use Rattle.core.proofs.OperationLaws.{in-range-operation}
 use Rattle.issuing.proofs.IssueLaws.{below-none, below-more}
 use Rattle.issuing.proofs.store_below.Statement.{statement}
 use Rattle.issuing.proofs.store_below.Tie as tie

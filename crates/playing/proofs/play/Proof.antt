@@ -18,11 +18,11 @@ use native.Mathlib.Omega.{arith}
 use denote.Ref.{now}
 use borrow.Author.Needs.{needs}
 use Rattle.formats.proofs.HeadLaws.{at-least}
-use Rattle.machine.proofs.OperationLaws.{in-range-operation}
+use Rattle.core.proofs.OperationLaws.{in-range-operation}
 use Rattle.turns.proofs.Going.{begins, chain-ends, ends, in-range, inside}
 use Rattle.turns.proofs.Turning.{settled}
 use Rattle.playing.proofs.play.Tie as tie
-use Rattle.playing.proofs.play.Proof.Regions.{Given, Inv-older, Inv-pass, Inv-search, Inv-shift, Inv-turns, Inv-wake, few-at, machine, turn-going, μ-older, μ-pass, μ-search, μ-shift, μ-turns, μ-wake}
+use Rattle.playing.proofs.play.Proof.Regions.{Given, Inv-older, Inv-pass, Inv-search, Inv-shift, Inv-turns, Inv-wake, few-at, core, turn-going, μ-older, μ-pass, μ-search, μ-shift, μ-turns, μ-wake}
 use Rattle.playing.proofs.play.Proof.Drop.{sub-count, mul-x, array-copy-out-x, mul-entries, array-set-from-entries, empty-requires, restore-requires, turns-less, turns-again}
 use Rattle.playing.proofs.play.Proof.Decode.{enum-told, entry-for-requires, rename-requires, mul-entries-2, add-count, array-set-from-entries-2, accepted-requires, turns-less-2, turns-again-2}
 use Rattle.playing.proofs.play.Proof.Issue.{enum-told-2, read-requires, mul-entries-3, array-set-from-entries-3, accepted-requires-2, turns-less-3, turns-again-3}
@@ -60,7 +60,7 @@ first-index-requires c κs =
 turns-holds : Given tie.Need-turns-holds
 turns-holds c =
     let s = c .before .before .before .before .before .before .before .before .before .before .before .before .before .before .before in
-    (refl, settled (omega arith) (begins (now (s .args .program)) (now (s .args .«data»)) (now (s .args .schedule)) (s .args .machine) _ (s .pre) (c .first-index .ensures)))
+    (refl, settled (omega arith) (begins (now (s .args .program)) (now (s .args .«data»)) (now (s .args .schedule)) (s .args .core) _ (s .pre) (c .first-index .ensures)))
 
 record-at-requires : Given tie.Need-record-at-requires
 record-at-requires c κs =
@@ -80,7 +80,7 @@ array-copy-out-e c =
 
 way-of-requires : Given tie.Need-way-of-requires
 way-of-requires c κs =
-    λ h. in-range-operation (machine (c .before .before .before .before .before .before .before)) _ (in-range (turn-going (c .before .before .before .before .before .before))) (let p = c .before .place .ensures .2 in omega arith)
+    λ h. in-range-operation (core (c .before .before .before .before .before .before .before)) _ (in-range (turn-going (c .before .before .before .before .before .before))) (let p = c .before .place .ensures .2 in omega arith)
 
 cast-occupied : Given tie.Need-cast-occupied
 cast-occupied c =

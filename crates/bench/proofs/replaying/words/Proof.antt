@@ -4,7 +4,7 @@ use native.Mathlib.Omega.{arith}
 use borrow.Author.Needs.{needs}
 use lib.ListN.{length, getD, length-set}
 use lib.Seq.{ext-getD}
-use Rattle.machine.proofs.TabulateLaws.{filled-more}
+use Rattle.core.proofs.TabulateLaws.{filled-more}
 use Rattle.bench.specs.Replay.{wordsOf}
 use Rattle.bench.proofs.WordLaws.{words-long}
 use Rattle.bench.proofs.replaying.words.Statement.{statement}

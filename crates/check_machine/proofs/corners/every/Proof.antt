@@ -17,8 +17,8 @@ none-requires c κs = search needs
 loop-holds : tie.Need-loop-holds Inv-loop μ-loop
 loop-holds c = search needs
 
-machine-requires : tie.Need-machine-requires Inv-loop μ-loop
-machine-requires c κs = search needs
+core-requires : tie.Need-core-requires Inv-loop μ-loop
+core-requires c κs = search needs
 
 of-kind-requires : tie.Need-of-kind-requires Inv-loop μ-loop
 of-kind-requires c κs = search needs
@@ -43,7 +43,7 @@ every-spec =
     μ-loop
     none-requires
     loop-holds
-    machine-requires
+    core-requires
     of-kind-requires
     add-k
     loop-less

@@ -2,10 +2,10 @@
 use mathlib.Core.Path.{refl}
 use native.Mathlib.Omega.{arith}
 use borrow.Author.Needs.{needs}
-use Rattle.machine.proofs.DropLaws.{dropped}
+use Rattle.core.proofs.DropLaws.{dropped}
 use Rattle.turns.proofs.Turning.{drops-on}
 use Rattle.playing.proofs.play.Tie as tie
-use Rattle.playing.proofs.play.Proof.Regions.{Given, few-at, machine, tables-at}
+use Rattle.playing.proofs.play.Proof.Regions.{Given, few-at, core, tables-at}
 
 pub sub-count : Given tie.Need-sub-count
 sub-count c =
@@ -44,7 +44,7 @@ turns-again c =
     let u = c .restore in (
       (c .before .before .before .before .before .before .before .before .before .before) .turns .inv .0,
       drops-on ((c .before .before .before .before .before .before .before .before .before .before) .turns .inv .1) (c .before .before .before .before .before .before .before .before .before .if1 .taken) _
-          (dropped (machine (c .before .before .before .before .before .before .before .before .before .before)) (c .before .before .before .before .before .before .before .empty .result) _ (u .result .register) (u .result .name) _ _ _ _ _ _ _
+          (dropped (core (c .before .before .before .before .before .before .before .before .before .before)) (c .before .before .before .before .before .before .before .empty .result) _ (u .result .register) (u .result .name) _ _ _ _ _ _ _
           (record {
             isempty = c .before .before .before .before .before .before .before .empty .ensures;
             isregister = refl;

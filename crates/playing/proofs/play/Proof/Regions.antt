@@ -8,9 +8,9 @@ use Rattle.tables.specs.Entry.{sleepEntry, wakeEntry}
 use Rattle.tables.specs.declared.Entry.{Entry}
 use Rattle.formats.specs.declared.Record.{Record}
 use Rattle.formats.proofs.HeadLaws.{at-most}
-use Rattle.machine.specs.Changes.{changeFirst, entryAt}
-use Rattle.machine.specs.declared.Machine.{Machine}
-use Rattle.machine.proofs.DropLaws.{Long}
+use Rattle.core.specs.Changes.{changeFirst, entryAt}
+use Rattle.core.specs.declared.Core.{Core}
+use Rattle.core.proofs.DropLaws.{Long}
 use Rattle.issuing.specs.Issue.{storeBelow}
 use Rattle.completing.specs.Complete.{outcomeAt}
 use Rattle.stealing.specs.Steal.{victimAmong}
@@ -86,20 +86,20 @@ module _ (p : Given tie.At-turns) where
   abbrev pub start : Given tie.Start
   start = p .before .before .before .before .before .before .before .before .before .before .before .before .before .before .before .before
 
-  abbrev pub machine : Machine
-  machine =
-      machineOf (start .args .machine .setup) (p .turns .entries) (p .turns .mapname) (p .turns .mapregister) (p .turns .mapvalid) (p .turns .physical) (p .turns .values) (p .turns .registerlink) (p .turns .namelink) (p .turns .registerhead) (p .turns .namehead)
+  abbrev pub core : Core
+  core =
+      machineOf (start .args .core .setup) (p .turns .entries) (p .turns .mapname) (p .turns .mapregister) (p .turns .mapvalid) (p .turns .physical) (p .turns .values) (p .turns .registerlink) (p .turns .namelink) (p .turns .registerhead) (p .turns .namehead)
       (p .turns .count) (p .turns .fetch) (p .turns .next) (p .turns .halt)
 
   pub few-at : p .turns .count ≤ 64
   few-at = p .turns .inv .1 .few
 
-  pub tables-at : Long machine
+  pub tables-at : Long core
   tables-at = long (p .turns .inv .1)
 
 -- no drop is under way
 pub turn-going : (p : Given tie.Else1)
-    → Going (now (start (p .before) .args .program)) (now (start (p .before) .args .«data»)) (now (start (p .before) .args .schedule)) (p .before .turns .left) (p .before .turns .index) (machine (p .before)) (p .before .turns .«data») (p .before .turns .counts)
+    → Going (now (start (p .before) .args .program)) (now (start (p .before) .args .«data»)) (now (start (p .before) .args .schedule)) (p .before .turns .left) (p .before .turns .index) (core (p .before)) (p .before .turns .«data») (p .before .turns .counts)
 turn-going p = calm (p .before .turns .inv .1) (p .if1 .left)
 
 -- the way is chosen
@@ -107,8 +107,8 @@ module _ (p : Given tie.After-way-of) where
   abbrev pub head : Given tie.At-turns
   head = p .before .before .before .before .before .before .before .before
 
-  abbrev pub here : Machine
-  here = machine head
+  abbrev pub here : Core
+  here = core head
 
   abbrev pub event : Record
   event = p .before .before .before .before .record-at .result
@@ -153,7 +153,7 @@ module _ (p : Given tie.After-way-of) where
 
   -- the event is made: what it leaves goes on
   pub goes : (x : Played) → x ≡ played (now (start head .args .program)) event (reaching here (head .turns .«data») (head .turns .counts))
-      → Going (now (start head .args .program)) (now (start head .args .«data»)) (now (start head .args .schedule)) (head .turns .left - 1) (event .next) (x .world .machine) (x .world .memory) (x .counts)
+      → Going (now (start head .args .program)) (now (start head .args .«data»)) (now (start head .args .schedule)) (head .turns .left - 1) (event .next) (x .world .core) (x .world .memory) (x .counts)
   goes x e = goes-on going some-left (p .before .before .before .before .before .if3 .left) _ (p .before .before .before .before .record-at .ensures) x e
 
 -- the way to an outcome

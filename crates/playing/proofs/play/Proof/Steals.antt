@@ -8,9 +8,9 @@ use borrow.Author.Needs.{needs}
 use lib.ListN.{length}
 use Rattle.tables.specs.declared.Entry.{Entry}
 use Rattle.tables.proofs.TableLaws.{store-length}
-use Rattle.machine.specs.Changes.{entryAt, shows}
-use Rattle.machine.specs.declared.Machine.{Machine}
-use Rattle.machine.proofs.ChangeLaws.{change-none, change-step}
+use Rattle.core.specs.Changes.{entryAt, shows}
+use Rattle.core.specs.declared.Core.{Core}
+use Rattle.core.proofs.ChangeLaws.{change-none, change-step}
 use Rattle.stealing.specs.Steal.{victimAmong, victimOf}
 use Rattle.stealing.proofs.StealLaws.{found-at, none-at, passed-at, victim-within}
 use Rattle.turns.specs.declared.Ending.the-variants.{Steals}
@@ -32,7 +32,7 @@ module _ (p : Given tie.Joined6) where
   found : p .if6 .victim ≡ victimOf (here chosen) (at chosen)
   found =
       let l = p .before .search in
-      let m : Machine = here chosen in
+      let m : Core = here chosen in
       ⊎-elim (λ w. w .1 ∙ sym (none-at (m .physical) (m .entries) (at chosen) (l .k) (w .0 .taken)) ∙ l .inv .2)
       (λ w. w .5 ∙ sym (found-at (m .physical) (m .entries) (at chosen) (l .k) (w .0 .left) (λ z. w .4 .taken (w .3 .ensures ∙ z))) ∙ l .inv .2) (p .if6 .came)
 
@@ -152,7 +152,7 @@ pub learn-requires-3 : Given tie.Need-learn-requires-3
 learn-requires-3 c κs =
     let l = tables (way (c .before .before .before .before .before .before .before .before .before .before .before .before .before .before .before .before .before .before .before .before)) in
     let u = c .before .before .before .before .before .learn2 .ensures in
-    let m : Machine = here (way (c .before .before .before .before .before .before .before .before .before .before .before .before .before .before .before .before .before .before .before .before)) in
+    let m : Core = here (way (c .before .before .before .before .before .before .before .before .before .before .before .before .before .before .before .before .before .before .before .before)) in
     let owner : Entry = entryAt m ((c .before .before .before .before .before .before .before .before .before .before .before .before .before .before .before .before) .if6 .victim) in
     let shown : Bool = shows m (owner .destination) (owner .name) in
     (l .mapname, ap length (u .0) ∙ learnt-length shown (m .mapregister) (owner .destination) 0 ∙ l .mapregister, ap length (u .1) ∙ learnt-length shown (m .mapvalid) (owner .destination) false ∙ l .mapvalid, ap length (u .2) ∙ store-length _ _ _ ∙ l .physical)

@@ -1,0 +1,41 @@
+// The machine at rest: its state, set-up, refusals 5 and 6, drops and the report.
+pub mod dropping;
+pub mod lending;
+pub mod range;
+pub mod reporting;
+pub mod setting;
+
+use execution::Stop;
+pub use ranges::Setup;
+use tables::Entry;
+
+// The machine: under 4 KB, by value. Every table is a field of its own; index 0 of a table is nobody's.
+pub struct Core {
+    pub setup: Setup,
+    pub count: u8,
+    pub entries: [Entry; 64],
+    pub mapname: [u8; 32],
+    pub mapregister: [u8; 32],
+    pub mapvalid: [bool; 32],
+    pub physical: [u8; 96],
+    pub values: [u32; 96],
+    pub registerhead: u8,
+    pub registerlink: [u8; 96],
+    pub namehead: u8,
+    pub namelink: [u8; 96],
+    pub fetch: u32,
+    pub next: u32,
+    pub halt: Stop,
+}
+
+// The machine after a call, with 0 or a refusal.
+pub struct Answer {
+    pub core: Core,
+    pub number: u8,
+}
+
+// The committed registers, with 0 or refusal 5.
+pub struct Report {
+    pub registers: [u32; 32],
+    pub number: u8,
+}

@@ -1,3 +1,0 @@
--- Laws of the benchmark's functions.
-pub mod Rounds
-pub mod Results

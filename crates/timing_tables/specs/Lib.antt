@@ -1,4 +1,0 @@
--- The definitions that the contracts cite.
-pub mod Repeated
-pub mod Full
-pub mod Timing
