@@ -5,7 +5,6 @@ pub mod FreshLaws
 pub mod RangeLaws
 pub mod FreshInRange
 pub mod DropLaws
-pub mod ReportLaws
 pub mod RefusalLaws
 pub mod OperationLaws
 pub mod ChangeLaws

@@ -1,4 +1,5 @@
-// The machine at rest: its state, set-up, refusals 5 and 6, drops and the report.
+// The machine at rest, as our crates hold it: its state, set-up, refusals 5 and 6, drops and the committed registers. A buyer
+// holds it as `window::Machine`; all that is public here is inner.
 pub mod dropping;
 pub mod lending;
 pub mod range;
@@ -9,7 +10,7 @@ use execution::Stop;
 pub use ranges::Setup;
 use tables::Entry;
 
-// The machine: under 4 KB, by value. Every table is a field of its own; index 0 of a table is nobody's.
+// The core: all that document 01's machine holds, under 4 KB, by value. Every table is a field of its own; index 0 of a table is nobody's.
 pub struct Core {
     pub setup: Setup,
     pub count: u8,
@@ -28,14 +29,8 @@ pub struct Core {
     pub halt: Stop,
 }
 
-// The machine after a call, with 0 or a refusal.
+// The core after a call, with 0 or a refusal. Inner: a buyer gets `window::Answer`.
 pub struct Answer {
     pub core: Core,
-    pub number: u8,
-}
-
-// The committed registers, with 0 or refusal 5.
-pub struct Report {
-    pub registers: [u32; 32],
     pub number: u8,
 }

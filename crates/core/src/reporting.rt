@@ -1,7 +1,7 @@
 ghost use mathlib.Core.Path.{_≡_};
+ghost use Prim.Native.Nat.{_≤_};
 ghost use Rattle.core.specs.Report as Reports;
 use crate::Core;
-use crate::Report;
 use tables::maps;
 
 impl Core {
@@ -19,20 +19,12 @@ impl Core {
         registers
     }
 
-    // The committed registers, element 0 being 0; refused by 5 alone, then all values are 0.
-    pub fn report(self) -> Report
-        ensures { λ r. ⌜ r ≡ Reports.reportOf self ⌝ }
+    // The committed registers, element 0 being 0. Inner: the report and replay use it.
+    pub fn committed_values(self) -> [u32; 32]
+        requires { ⌜ self .count ≤ 64 ⌝ }
+        ensures { λ r. ⌜ r ≡ Reports.committedValues self ⌝ }
     {
-        if !self.in_range() {
-            return Report {
-                registers: [0; 32],
-                number: 5,
-            };
-        }
         let empty = self.drop_to(0);
-        Report {
-            registers: empty.mapped_values(),
-            number: 0,
-        }
+        empty.mapped_values()
     }
 }

@@ -17,7 +17,7 @@ use Rattle.core.specs.Range.{machineInRange}
 use Rattle.core.specs.Call.{lentRefusal}
 use Rattle.core.specs.declared.Core.{Core}
 use Rattle.core.proofs.RefusalLaws.{passed, both-none}
-use Rattle.core.proofs.ReportLaws.{in-range-count}
+use Rattle.core.proofs.RangeLaws.{in-range-count}
 use Rattle.completing.specs.Complete.{needsRegister, noneFree}
 use Rattle.agreement.specs.Lists.{Call, decode, issue, complete, commit, own, World, Made, make, isCommit, origin}
 use Rattle.agreement.proofs.Kept.{Kept}

@@ -6,30 +6,13 @@ use mathlib.Core.List.{List}
 use native.Mathlib.Omega.{arith}
 use native.Mathlib.Numerals.{add-one}
 use borrow.Author.Tests.{eq-eqb, ne-eqb}
-use Rattle.tables.specs.declared.State.the-variants.{Waits, Issued, Completed}
-use Rattle.core.specs.declared.Core.{Core}
-use Rattle.core.specs.declared.Answer.{Answer}
 use Rattle.core.specs.Call.{lentRefusal}
-use Rattle.core.specs.Changes.{entryAt}
-use Rattle.issuing.specs.Issue.{issueOf}
-use Rattle.completing.specs.Complete.{completeOf}
-use Rattle.committing.specs.Commit.{Commit, commitOf}
-use Rattle.window.specs.Drain.{neededOf, drainEnds, idle, drainFrom, drainOf}
-
--- the call that position 0 needs, by its state
-module _ (program memory : List ℕ) (m : Core) where
-  pub needs-issue : entryAt m 0 .state ≡ Waits → (r : Answer) → r ≡ issueOf program memory 0 m → neededOf program memory m ≡ record { answer = r; memory = memory }
-  needs-issue s r e = rw (s, e)
-
-  pub needs-complete : entryAt m 0 .state ≡ Issued → (r : Answer) → r ≡ completeOf program memory 0 m → neededOf program memory m ≡ record { answer = r; memory = memory }
-  needs-complete s r e = rw (s, e)
-
-  pub needs-commit : entryAt m 0 .state ≡ Completed → neededOf program memory m ≡ commitOf program memory m
-  needs-commit s = rw s
+use Rattle.window.specs.Calls.{World, Made, make, neededOf}
+use Rattle.window.specs.Drain.{drainEnds, idle, drainFrom, drainOf}
 
 -- one call of at most budget, after some
-module _ (budget calls : ℕ) (program memory : List ℕ) (m : Core) where
-  pub drain-over : budget ≤ calls → drainFrom (budget - calls) program memory m calls ≡ drainEnds memory m calls 0
+module _ (budget calls : ℕ) (program : List ℕ) (w : World) where
+  pub drain-over : budget ≤ calls → drainFrom (budget - calls) program w calls ≡ drainEnds w calls 0
   unfolding drainFrom
   drain-over h = let n : budget - calls ≡ 0 = omega arith in rw n
 
@@ -37,25 +20,25 @@ module _ (budget calls : ℕ) (program memory : List ℕ) (m : Core) where
     left : budget - calls ≡ suc (budget - (calls + 1))
     left = omega arith
 
-    pub drain-idle : idle m ≡ true → drainFrom (budget - calls) program memory m calls ≡ drainEnds memory m calls 0
+    pub drain-idle : idle (w .core) ≡ true → drainFrom (budget - calls) program w calls ≡ drainEnds w calls 0
     unfolding drainFrom
     drain-idle i = rw (left, i)
 
-    pub drain-refused : idle m ≡ false → (made : Commit) → neededOf program memory m ≡ made → (made .answer .number ≡ 0 → ⊥)
-        → drainFrom (budget - calls) program memory m calls ≡ drainEnds (made .memory) (made .answer .core) calls (made .answer .number)
+    pub drain-refused : idle (w .core) ≡ false → (made : Made) → make program (neededOf (w .core)) w ≡ made → (made .number ≡ 0 → ⊥)
+        → drainFrom (budget - calls) program w calls ≡ drainEnds (made .world) calls (made .number)
     unfolding drainFrom
-    drain-refused i made e z = rw (left, i, e, ne-eqb (made .answer .number) 0 z)
+    drain-refused i made e z = rw (left, i, e, ne-eqb (made .number) 0 z)
 
-    pub drain-goes : idle m ≡ false → (made : Commit) → neededOf program memory m ≡ made → made .answer .number ≡ 0
-        → drainFrom (budget - (calls + 1)) program (made .memory) (made .answer .core) (calls + 1) ≡ drainFrom (budget - calls) program memory m calls
+    pub drain-goes : idle (w .core) ≡ false → (made : Made) → make program (neededOf (w .core)) w ≡ made → made .number ≡ 0
+        → drainFrom (budget - (calls + 1)) program (made .world) (calls + 1) ≡ drainFrom (budget - calls) program w calls
     unfolding drainFrom
-    drain-goes i made e z = rw (left, i, e, eq-eqb (made .answer .number) 0 z, add-one calls)
+    drain-goes i made e z = rw (left, i, e, eq-eqb (made .number) 0 z, add-one calls)
 
-module _ (program memory : List ℕ) (m : Core) where
-  pub drain-lent : lentRefusal m program memory ≡ 0 → drainOf program memory m ≡ drainFrom (3 * m .count) program memory m 0
+module _ (program : List ℕ) (w : World) where
+  pub drain-lent : lentRefusal (w .core) program (w .memory) ≡ 0 → drainOf program w ≡ drainFrom (3 * w .core .count) program w 0
   unfolding drainOf
-  drain-lent e = rw (eq-eqb (lentRefusal m program memory) 0 e)
+  drain-lent e = rw (eq-eqb (lentRefusal (w .core) program (w .memory)) 0 e)
 
-  pub drain-unlent : (number : ℕ) → number ≡ lentRefusal m program memory → (number ≡ 0 → ⊥) → drainOf program memory m ≡ drainEnds memory m 0 number
+  pub drain-unlent : (number : ℕ) → number ≡ lentRefusal (w .core) program (w .memory) → (number ≡ 0 → ⊥) → drainOf program w ≡ drainEnds w 0 number
   unfolding drainOf
-  drain-unlent number e h = rw (e, ne-eqb (lentRefusal m program memory) 0 (λ z. h (e ∙ z)))
+  drain-unlent number e h = rw (e, ne-eqb (lentRefusal (w .core) program (w .memory)) 0 (λ z. h (e ∙ z)))

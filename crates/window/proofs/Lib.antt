@@ -1,2 +1,4 @@
--- Laws of drain.
+-- Laws of the calls, of drain and of the report.
+pub mod MakeLaws
 pub mod DrainLaws
+pub mod ReportLaws

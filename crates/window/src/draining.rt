@@ -1,9 +1,10 @@
 // Drain: the calls that commit position 0, until none is left.
 ghost use mathlib.Core.Path.{_≡_};
 ghost use Prim.Native.Nat.{_*_};
+ghost use Rattle.window.specs.Calls as Calls;
 ghost use Rattle.window.specs.Drain as Drain;
 ghost use Rattle.window.specs.Handed as Handed;
-use crate::Answer;
+use crate::Call;
 use crate::Drained;
 use crate::Machine;
 use tables::State;
@@ -19,22 +20,22 @@ impl Machine {
     }
 
     // the call that position 0 needs next
-    fn needed(self, program: &[u8], data: &mut [u8]) -> Answer
-        ensures { λ r. ⌜ Drain.neededOf (now (program .entry)) (now («data» .entry)) (self .core) ≡ record { answer = Handed.answer r; memory = now («data» .exit) } ⌝ }
+    fn needed(self) -> Call
+        ensures { λ r. ⌜ r ≡ Calls.neededOf (self .core) ⌝ }
     {
         let core = self.core;
         let e = core.entries[0];
         let state = e.state;
         match state {
-            State::Waits => self.issue(program, data, 0),
-            State::Issued => self.complete(program, data, 0),
-            State::Completed => self.commit(program, data),
+            State::Waits => Call::Issue(0),
+            State::Issued => Call::Complete(0),
+            State::Completed => Call::Commit,
         }
     }
 
     // at most so many calls
     fn drain_by(mut self, program: &[u8], data: &mut [u8], budget: u8) -> Drained
-        ensures { λ r. ⌜ Drain.drainFrom budget (now (program .entry)) (now («data» .entry)) (self .core) 0 ≡ Handed.drained r (now («data» .exit)) ⌝ }
+        ensures { λ r. ⌜ Drain.drainFrom budget (now (program .entry)) (Handed.world self (now («data» .entry))) 0 ≡ Handed.drained r (now («data» .exit)) ⌝ }
     {
         let mut calls: u8 = 0;
         while calls < budget {
@@ -45,7 +46,8 @@ impl Machine {
                     number: 0,
                 };
             }
-            let answer = self.needed(program, data);
+            let call = self.needed();
+            let answer = self.make(call, program, data);
             let next = answer.machine;
             self = next;
             if answer.number != 0 {
@@ -66,7 +68,7 @@ impl Machine {
 
     // Commits the entries one by one, until none is left or the machine halts; ends at a refused call with its number.
     pub fn drain(self, program: &[u8], data: &mut [u8]) -> Drained
-        ensures { λ r. ⌜ Drain.drainOf (now (program .entry)) (now («data» .entry)) (self .core) ≡ Handed.drained r (now («data» .exit)) ⌝ }
+        ensures { λ r. ⌜ Drain.drainOf (now (program .entry)) (Handed.world self (now («data» .entry))) ≡ Handed.drained r (now («data» .exit)) ⌝ }
     {
         let core = self.core;
         let number = core.lent_refusal(program, data);

@@ -7,7 +7,7 @@ use Rattle.execution.specs.declared.Outcome.{Outcome}
 use Rattle.core.specs.Changes.{entryAt}
 use Rattle.completing.specs.Complete.{outcomeAt}
 use Rattle.stealing.specs.Steal.{victimOf}
-use Rattle.core.proofs.ReportLaws.{in-range-count}
+use Rattle.core.proofs.RangeLaws.{in-range-count}
 use Rattle.completing.proofs.CompleteLaws.{refused-halted, refused-place, refused-state, refused-register, has-victim, supplied, supply}
 use borrow.Author.Needs.{needs}
 use Rattle.completing.proofs.complete_refusal.Statement.{statement}

@@ -5,7 +5,7 @@ use Rattle.tables.specs.declared.Entry.{Entry}
 use Rattle.core.specs.declared.Core.{Core}
 use Rattle.core.specs.Changes.{place}
 use Rattle.completing.specs.Complete.{registered, redirected, finished}
-use Rattle.core.proofs.ReportLaws.{in-range-count}
+use Rattle.core.proofs.RangeLaws.{in-range-count}
 use Rattle.completing.proofs.CompleteLaws.{registered-count, finish-stops, finish-goes}
 use borrow.Author.Needs.{needs}
 use Rattle.completing.proofs.completed.Statement.{statement}

@@ -1,5 +1,5 @@
 use native.Mathlib.Omega.{arith}
-use Rattle.core.proofs.ReportLaws.{in-range-count}
+use Rattle.core.proofs.RangeLaws.{in-range-count}
 use Rattle.core.proofs.OperationLaws.{in-range-operation}
 use borrow.Author.Needs.{needs}
 use Rattle.completing.proofs.outcome_at.Statement.{statement}

@@ -3,7 +3,7 @@ use mathlib.Core.Path.{_≡_, ap}
 use lib.ListN.{length}
 use Rattle.tables.specs.declared.Entry.{Entry}
 use Rattle.core.specs.Changes.{place}
-use Rattle.core.proofs.ReportLaws.{in-range-count}
+use Rattle.core.proofs.RangeLaws.{in-range-count}
 use Rattle.core.proofs.OperationLaws.{in-range-operation}
 use Rattle.issuing.specs.Issue.{issued}
 use borrow.Author.Needs.{needs}

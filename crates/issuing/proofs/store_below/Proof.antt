@@ -6,7 +6,7 @@ use mathlib.Core.Path.{_≡_, ap, _∙_}
 use native.Mathlib.Omega.{arith}
 use Rattle.execution.specs.Roles.{stores}
 use Rattle.issuing.specs.Issue.{storeBelow}
-use Rattle.core.proofs.ReportLaws.{in-range-count}
+use Rattle.core.proofs.RangeLaws.{in-range-count}
 use Rattle.core.proofs.OperationLaws.{in-range-operation}
 use Rattle.issuing.proofs.IssueLaws.{below-none, below-more}
 use Rattle.issuing.proofs.store_below.Statement.{statement}

@@ -1,7 +1,8 @@
 use mathlib.Core.Path.{sym, _∙_}
 use denote.Ref.{now}
-use Rattle.core.proofs.ReportLaws.{in-range-count}
+use Rattle.core.proofs.RangeLaws.{in-range-count}
 use Rattle.core.proofs.RefusalLaws.{in-range-lent}
+use Rattle.window.specs.Handed as Handed
 use Rattle.window.proofs.DrainLaws.{drain-lent, drain-unlent}
 use borrow.Author.Needs.{needs}
 use Rattle.window.proofs.Machine.drain.Statement.{statement}
@@ -16,7 +17,7 @@ same-length c = search needs
 returns : tie.Need-returns
 returns c =
     let a = (c .before .before .before .before .before .before) .args in
-    drain-unlent (now (a .program)) (now (a .«data»)) (a .self .core) _ ((c .before) .lent-refusal .ensures) (c .if1 .taken)
+    drain-unlent (now (a .program)) (Handed.world (a .self) (now (a .«data»))) _ ((c .before) .lent-refusal .ensures) (c .if1 .taken)
 
 mul-budget : tie.Need-mul-budget
 mul-budget c =
@@ -34,7 +35,7 @@ same-length-2 c = search needs
 returns-2 : tie.Need-returns-2
 returns-2 c =
     let a = (c .before .before .before .before .before .before .before .before .before .before .before) .args in
-    drain-lent (now (a .program)) (now (a .«data»)) (a .self .core) (sym ((c .before .before .before .before .before .before) .lent-refusal .ensures) ∙ (c .before .before .before .before .before) .if1 .left) ∙ (c .before .before) .drain-by .ensures
+    drain-lent (now (a .program)) (Handed.world (a .self) (now (a .«data»))) (sym ((c .before .before .before .before .before .before) .lent-refusal .ensures) ∙ (c .before .before .before .before .before) .if1 .left) ∙ (c .before .before) .drain-by .ensures
 
 pub drain-spec : {M : Type 1} → statement M
 drain-spec =
