@@ -25,7 +25,8 @@ use Rattle.stealing.specs.Steal.{victimOf, noVictim}
 use Rattle.committing.specs.Commit.{commitRefusal, commitBy, commitOf}
 use Rattle.core.specs.declared.Core.{Core}
 use Rattle.core.specs.declared.Answer.{Answer}
-use Rattle.agreement.specs.Lists.{decode, issue, complete, commit, madeBy, callOf}
+use Rattle.window.specs.Calls.{madeBy, callOf}
+use Rattle.window.specs.declared.Call.the-variants.{Decode as decode, Issue as issue, Complete as complete, Commit as commit}
 use Rattle.agreement.proofs.Refusals.{first-none, empty-none, in-turn-none, no-some}
 use Rattle.agreement.proofs.Turns.{At}
 use Rattle.agreement.proofs.Victims.{victim-found}

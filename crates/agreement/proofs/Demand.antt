@@ -18,7 +18,8 @@ use Rattle.core.specs.Drop.{dropTo}
 use Rattle.core.specs.Report.{valueIn}
 use Rattle.core.specs.declared.Core.{Core}
 use Rattle.core.proofs.DropLaws.{drop-done}
-use Rattle.agreement.specs.Lists.{World, makeAll, acceptedCommits, started, origin}
+use Rattle.window.specs.Calls.{World}
+use Rattle.agreement.specs.Lists.{makeAll, acceptedCommits, started, origin}
 use Rattle.agreement.specs.Statement.{Agrees, Statement}
 use Rattle.agreement.proofs.View.{viewOf}
 use Rattle.agreement.proofs.Invariant.{Emptied}

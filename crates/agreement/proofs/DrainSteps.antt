@@ -18,7 +18,8 @@ use Rattle.core.specs.Drop.{dropTo}
 use Rattle.issuing.specs.Issue.{issueRefusal, issued, issueOf}
 use Rattle.completing.specs.Complete.{completeRefusal, completed, completeOf}
 use Rattle.committing.specs.Commit.{commitRefusal, haltedBy, moveDown, retired, committed, writtenBy, Commit, commitBy, commitOf}
-use Rattle.window.specs.Drain.{neededBy, idle}
+use Rattle.window.specs.Calls.{callOf, neededBy}
+use Rattle.window.specs.Drain.{idle}
 use Rattle.core.specs.declared.Core.{Core}
 use Rattle.core.specs.declared.Answer.{Answer}
 use Rattle.agreement.proofs.Refusals.{is-zero}
@@ -130,7 +131,7 @@ module _ (m : Core) (room : 0 < length (m .entries)) where
       (record { answer = record { core = committed m; number = 0 }; memory = writtenBy (entryAt m 0) memory }) (record { answer = record { core = m; number = refusal }; memory = memory })
       (λ e z. l) (λ e z. absurd (eqb-false refusal 0 e z))
 
-  pub needed-lowers : (program memory : List ℕ) (s : Stage) → At m 0 s → neededBy s program memory m .answer .number ≡ 0 → Lower m (neededBy s program memory m .answer .core)
+  pub needed-lowers : (program memory : List ℕ) (s : Stage) → At m 0 s → callOf program memory (neededBy s) m .number ≡ 0 → Lower m (callOf program memory (neededBy s) m .world .core)
   unfolding issueOf completeOf commitOf
   needed-lowers program memory Waits a = answer-lowers (issued memory 0 m) (inTurn (lentRefusal m program memory) (issueRefusal 0 m)) (issue-lowers memory a)
   needed-lowers program memory Issued a = answer-lowers (completed 0 m) (inTurn (lentRefusal m program memory) (completeRefusal 0 m)) (complete-lowers a)

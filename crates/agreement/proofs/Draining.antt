@@ -18,8 +18,8 @@ use Rattle.ranges.specs.Sizes.{setupInRange}
 use Rattle.ranges.specs.Entries.{entryInRange}
 use Rattle.core.specs.Call.{lentRefusal}
 use Rattle.core.specs.Changes.{entryAt}
-use Rattle.committing.specs.Commit.{Commit}
-use Rattle.window.specs.Drain.{neededOf, Drain, idle, drainEnds, drainFrom, drainOf}
+use Rattle.window.specs.Calls.{World, Made, make, neededOf}
+use Rattle.window.specs.Drain.{Drain, idle, drainEnds, drainFrom, drainOf}
 use Rattle.ranges.specs.declared.Setup.{Setup}
 use Rattle.core.specs.declared.Core.{Core}
 use Rattle.core.proofs.RefusalLaws.{in-range-lent}
@@ -27,40 +27,42 @@ use Rattle.agreement.proofs.Tests.{by-choice}
 use Rattle.agreement.proofs.DrainSteps.{ahead, none-ahead, idle-empty, busy, Lower, needed-lowers}
 
 -- at most so many calls more
-from-calls : (n : ℕ) (program memory : List ℕ) (m : Core) (calls : ℕ) → drainFrom n program memory m calls .calls ≤ calls + n
+from-calls : (n : ℕ) (program : List ℕ) (w : World) (calls : ℕ) → drainFrom n program w calls .calls ≤ calls + n
 unfolding drainFrom
-from-calls zero program memory m calls = omega arith
-from-calls (suc n) program memory m calls =
-    let made : Commit = neededOf program memory m in
-    let more : Drain = drainFrom n program (made .memory) (made .answer .core) (suc calls) in
-    let over : Drain = drainEnds (made .memory) (made .answer .core) calls (made .answer .number) in
+from-calls zero program w calls = omega arith
+from-calls (suc n) program w calls =
+    let made : Made = make program (neededOf (w .core)) w in
+    let more : Drain = drainFrom n program (made .world) (suc calls) in
+    let over : Drain = drainEnds (made .world) calls (made .number) in
     let most : Drain → Type 0 = λ d. d .calls ≤ calls + suc n in
-    by-choice most (idle m) (drainEnds memory m calls 0) (choose (eqb (made .answer .number) 0) more over) (λ e. omega arith) (λ e.
-    by-choice most (eqb (made .answer .number) 0) more over (λ z. let r = from-calls n program (made .memory) (made .answer .core) (suc calls) in omega arith) (λ z. omega arith))
+    by-choice most (idle (w .core)) (drainEnds w calls 0) (choose (eqb (made .number) 0) more over) (λ e. omega arith) (λ e.
+    by-choice most (eqb (made .number) 0) more over (λ z. let r = from-calls n program (made .world) (suc calls) in omega arith) (λ z. omega arith))
 
-pub of-calls : (program memory : List ℕ) (m : Core) → drainOf program memory m .calls ≤ 3 * m .count
+pub of-calls : (program : List ℕ) (w : World) → drainOf program w .calls ≤ 3 * w .core .count
 unfolding drainOf
-of-calls program memory m =
-    by-choice (λ (d : Drain). d .calls ≤ 3 * m .count) (eqb (lentRefusal m program memory) 0) (drainFrom (3 * m .count) program memory m 0) (drainEnds memory m 0 (lentRefusal m program memory))
-    (λ e. let r = from-calls (3 * m .count) program memory m 0 in omega arith) (λ e. omega arith)
+of-calls program w =
+    let lent : ℕ = lentRefusal (w .core) program (w .memory) in
+    by-choice (λ (d : Drain). d .calls ≤ 3 * w .core .count) (eqb lent 0) (drainFrom (3 * w .core .count) program w 0) (drainEnds w 0 lent)
+    (λ e. let r = from-calls (3 * w .core .count) program w 0 in omega arith) (λ e. omega arith)
 
 -- it ends with no entry left or halted
-from-ends : (n : ℕ) (program memory : List ℕ) (m : Core) (calls : ℕ) → (0 < m .count → 0 < length (m .entries)) → ahead m ≤ n
-    → drainFrom n program memory m calls .number ≡ 0 → idle (drainFrom n program memory m calls .core) ≡ true
-unfolding drainFrom
-from-ends zero program memory m calls room h = λ z. idle-empty m (none-ahead m h)
-from-ends (suc n) program memory m calls room h =
-    let made : Commit = neededOf program memory m in
-    let more : Drain = drainFrom n program (made .memory) (made .answer .core) (suc calls) in
-    let over : Drain = drainEnds (made .memory) (made .answer .core) calls (made .answer .number) in
-    by-choice (λ (d : Drain). d .number ≡ 0 → idle (d .core) ≡ true) (idle m) (drainEnds memory m calls 0) (choose (eqb (made .answer .number) 0) more over) (λ e z. e) (λ e.
-    by-choice (λ (d : Drain). d .number ≡ 0 → idle (d .core) ≡ true) (eqb (made .answer .number) 0) more over
+from-ends : (n : ℕ) (program : List ℕ) (w : World) (calls : ℕ) → (0 < w .core .count → 0 < length (w .core .entries)) → ahead (w .core) ≤ n
+    → drainFrom n program w calls .number ≡ 0 → idle (drainFrom n program w calls .world .core) ≡ true
+unfolding drainFrom make
+from-ends zero program w calls room h = λ z. idle-empty (w .core) (none-ahead (w .core) h)
+from-ends (suc n) program w calls room h =
+    let m : Core = w .core in
+    let made : Made = make program (neededOf m) w in
+    let more : Drain = drainFrom n program (made .world) (suc calls) in
+    let over : Drain = drainEnds (made .world) calls (made .number) in
+    by-choice (λ (d : Drain). d .number ≡ 0 → idle (d .world .core) ≡ true) (idle m) (drainEnds w calls 0) (choose (eqb (made .number) 0) more over) (λ e z. e) (λ e.
+    by-choice (λ (d : Drain). d .number ≡ 0 → idle (d .world .core) ≡ true) (eqb (made .number) 0) more over
     (λ q.
     let a = busy m e in
-    let l : Lower m (made .answer .core) = needed-lowers m (room (a .there)) program memory (entryAt m 0 .state) a (eqb-true (made .answer .number) 0 q) in
+    let l : Lower m (made .world .core) = needed-lowers m (room (a .there)) program (w .memory) (entryAt m 0 .state) a (eqb-true (made .number) 0 q) in
     let less = l .less in
-    from-ends n program (made .memory) (made .answer .core) (suc calls) (λ x. l .room) (omega arith))
-    (λ q z. absurd (eqb-false (made .answer .number) 0 q z)))
+    from-ends n program (made .world) (suc calls) (λ x. l .room) (omega arith))
+    (λ q z. absurd (eqb-false (made .number) 0 q z)))
 
 -- a machine in range with an entry has a place for it: a place beyond the array is all zeros, which is no entry in range
 empty-refused : (s : Setup) → entryInRange s emptyEntry ≡ false
@@ -81,10 +83,11 @@ in-range-place m t h =
     let c = tablesInRange m in
     some-place (m .setup) (m .count) (m .entries) (and-right (a && b && c) (entriesInRange (m .setup) (m .count) (m .entries)) t) h
 
-pub of-ends : (program memory : List ℕ) (m : Core) → drainOf program memory m .number ≡ 0 → idle (drainOf program memory m .core) ≡ true
+pub of-ends : (program : List ℕ) (w : World) → drainOf program w .number ≡ 0 → idle (drainOf program w .world .core) ≡ true
 unfolding drainOf
-of-ends program memory m =
-    let lent : ℕ = lentRefusal m program memory in
-    by-choice (λ (d : Drain). d .number ≡ 0 → idle (d .core) ≡ true) (eqb lent 0) (drainFrom (3 * m .count) program memory m 0) (drainEnds memory m 0 lent)
-    (λ e. from-ends (3 * m .count) program memory m 0 (in-range-place m (in-range-lent m program memory (eqb-true lent 0 e))) (omega arith))
+of-ends program w =
+    let m : Core = w .core in
+    let lent : ℕ = lentRefusal m program (w .memory) in
+    by-choice (λ (d : Drain). d .number ≡ 0 → idle (d .world .core) ≡ true) (eqb lent 0) (drainFrom (3 * m .count) program w 0) (drainEnds w 0 lent)
+    (λ e. from-ends (3 * m .count) program w 0 (in-range-place m (in-range-lent m program (w .memory) (eqb-true lent 0 e))) (omega arith))
     (λ e z. absurd (eqb-false lent 0 e z))

@@ -18,7 +18,8 @@ use Rattle.stealing.specs.Steal.{robbed}
 use Rattle.committing.specs.Commit.{retired}
 use Rattle.ranges.specs.declared.Setup.{Setup}
 use Rattle.core.specs.declared.Core.{Core}
-use Rattle.agreement.specs.Lists.{Call, World, Made, madeBy}
+use Rattle.window.specs.Calls.{World, Made, madeBy}
+use Rattle.window.specs.declared.Call.{Call}
 use Rattle.agreement.proofs.Kept.{Kept, kept-enter, kept-place, kept-robbed, kept-learned, kept-drops, kept-redirected, kept-retired, kept-halted}
 use Rattle.agreement.proofs.Turns.{Turn, refused, enters, issues, ends, settles, takes, steals, retires, halts}
 use Rattle.agreement.proofs.Steady.{Steady, steady-enter, steady-place, steady-learned, steady-robbed, steady-drops, steady-redirected, steady-retired, halted-setup}
@@ -77,7 +78,7 @@ module _ (program : List ℕ) (w : World) (f : Fit program w) where
       as-made made _ (w .memory) 0 e
       (fit-world _ (w .memory) (kept-redirected i n b (kept-learned m (f .kept) i (m .registerhead) (outcomeAt m i .result) r))
       (steady-redirected i n b .setup ∙ steady-learned i (m .registerhead) (outcomeAt m i .result) m .setup) refl)
-  fit-turn call made (steals i v u h d r y t z e) =
+  fit-turn call made (steals i v u h d r victim y t z e) =
       let m : Core = w .core in
       let n : ℕ = outcomeAt m i .next in
       let register : ℕ = held (m .physical) (entryAt m v) in

@@ -22,7 +22,10 @@ use Rattle.decoding.specs.Decode.{decoded}
 use Rattle.issuing.specs.Issue.{storeBelow, issued}
 use Rattle.completing.specs.Complete.{completed}
 use Rattle.core.specs.declared.Core.{Core}
-use Rattle.agreement.specs.Lists.{Call, decode, issue, complete, commit, own, World, Made, madeBy, callOf, make, isCommit, acceptedCommit, neededBy, needed, CommitsWithin}
+use Rattle.window.specs.Calls.{World, Made, madeBy, callOf, isCommit, neededBy, make}
+use Rattle.window.specs.declared.Call.{Call}
+use Rattle.window.specs.declared.Call.the-variants.{Decode as decode, Issue as issue, Complete as complete, Commit as commit}
+use Rattle.agreement.specs.Lists.{own, acceptedCommit, needed, CommitsWithin, makeEvent}
 use Rattle.agreement.proofs.View.{View, viewOf}
 use Rattle.agreement.proofs.Invariant.{Invariant}
 use Rattle.agreement.proofs.Tests.{equal, apart, eq?}
@@ -40,7 +43,7 @@ module _ (program : List ℕ) (w : World) where
   within-at : (n : ℕ) (call : Call) → callOf program (w .memory) call (w .core) .number ≡ 0
       → (isCommit call ≡ false → CommitsWithin n program (callOf program (w .memory) call (w .core) .world))
       → needed (w .core) ≡ call → CommitsWithin (suc n) program w
-  unfolding CommitsWithin make
+  unfolding CommitsWithin make makeEvent
   within-at n call a f q =
       subst (λ (x : Call). (callOf program (w .memory) x (w .core) .number ≡ 0) × ((isCommit x ≡ false) → CommitsWithin n program (callOf program (w .memory) x (w .core) .world))) (sym q) (a, f)
 
@@ -137,7 +140,7 @@ module _ (program : List ℕ) (start : State) (n : ℕ) (w : World) (l : Lively 
 module _ (program : List ℕ) (start : State) where
   after : (n : ℕ) (w : World) (call : Call) (m : Core) → Lively program start n w → callOf program (w .memory) call (w .core) ≡ madeBy m (w .memory) 0 → m .halt .cause ≡ 0
       → (k : ℕ) × Lively program start k (record { core = m; memory = w .memory })
-  unfolding make
+  unfolding make makeEvent
   after n w call m l e z =
       let r = make-reached program start n (own call) w (l .reached) in
       let k : ℕ = n + acceptedCommit (own call) (callOf program (w .memory) call (w .core) .number) in

@@ -17,7 +17,8 @@ use Rattle.core.specs.Call.{lentRefusal}
 use Rattle.core.specs.declared.Core.{Core}
 use Rattle.core.proofs.FreshInRange.{fresh-in-range}
 use Rattle.ranges.proofs.SizeLaws.{accepted-sizes}
-use Rattle.agreement.specs.Lists.{Event, World, makeAll, acceptedCommits, started, origin}
+use Rattle.window.specs.Calls.{World}
+use Rattle.agreement.specs.Lists.{Event, makeAll, acceptedCommits, started, origin}
 use Rattle.agreement.specs.Unrefused.{Unrefused}
 use Rattle.agreement.proofs.View.{viewOf}
 use Rattle.agreement.proofs.Start.{start}

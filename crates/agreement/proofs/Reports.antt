@@ -10,9 +10,10 @@ use Rattle.tables.specs.Table.{lookUp}
 use Rattle.tables.proofs.TableLaws.{look-zero}
 use Rattle.core.specs.Range.{machineInRange}
 use Rattle.core.specs.Drop.{dropTo}
-use Rattle.core.specs.Report.{valueIn, valuesIn, reportOf}
+use Rattle.core.specs.Report.{valueIn, valuesIn}
+use Rattle.window.specs.Report.{reportOf}
 use Rattle.core.specs.declared.Core.{Core}
-use Rattle.core.proofs.ReportLaws.{report-given}
+use Rattle.window.proofs.ReportLaws.{report-given}
 use Rattle.core.proofs.TabulateLaws.{tabulate-length, tabulate-at}
 
 -- x0 shows no register, and no register has value 0

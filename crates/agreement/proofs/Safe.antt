@@ -24,7 +24,10 @@ use Rattle.completing.specs.Complete.{outcomeAt, learned}
 use Rattle.stealing.specs.Steal.{robbed}
 use Rattle.committing.specs.Commit.{haltedBy}
 use Rattle.core.specs.declared.Core.{Core}
-use Rattle.agreement.specs.Lists.{Call, decode, issue, complete, commit, Event, World, Made, madeBy, make, makeAll, isCommit, callIn, acceptedCommit, acceptedCommits}
+use Rattle.window.specs.Calls.{World, Made, madeBy, isCommit}
+use Rattle.window.specs.declared.Call.{Call}
+use Rattle.window.specs.declared.Call.the-variants.{Decode as decode, Issue as issue, Complete as complete, Commit as commit}
+use Rattle.agreement.specs.Lists.{Event, makeAll, callIn, acceptedCommit, acceptedCommits, makeEvent}
 use Rattle.agreement.proofs.View.{viewOf}
 use Rattle.agreement.proofs.Invariant.{Invariant, Emptied}
 use Rattle.agreement.proofs.Runs.{ran, run-on, run-ends}
@@ -101,7 +104,7 @@ module _ (program : List ℕ) (start : State) (n : ℕ) (w : World) (f : Fit pro
         let t2 = steady-learned i (m .registerhead) (outcomeAt m i .result) m in
         as-made call (complete i) made _ u e (on _ (record { setup = t .setup ∙ t2 .setup; halt = t .halt ∙ t2 .halt })
         (take-core-keeps program s m (f .kept) inv i (h .at .there) (h .at .state) sized (h .calm) d r))
-    turn-alive call made (steals i v u h d r y t z e) =
+    turn-alive call made (steals i v u h d r victim y t z e) =
         let register : ℕ = held (m .physical) (entryAt m v) in
         let b : Core = learned i register (outcomeAt m i .result) (robbed v m) in
         let t1 = steady-redirected i (outcomeAt m i .next) b in
@@ -131,7 +134,7 @@ module _ (program : List ℕ) (start : State) (n : ℕ) (w : World) (f : Fit pro
   turn-dead call made d g (ends i u h z e) = absurd (d (h .runs))
   turn-dead call made d g (settles i u h z e) = absurd (d (h .at .runs))
   turn-dead call made d g (takes i u h z r e) = absurd (d (h .at .runs))
-  turn-dead call made d g (steals i v u h z r y t o e) = absurd (d (h .at .runs))
+  turn-dead call made d g (steals i v u h z r victim y t o e) = absurd (d (h .at .runs))
   turn-dead call made d g (retires u h c e) = absurd (d (h .runs))
   turn-dead call made d g (halts u h c e) = absurd (d (h .runs))
 
@@ -145,11 +148,11 @@ pub record Reached (program : List ℕ) (start : State) (n : ℕ) (w : World) : 
   pub safe : Safe program start n w
 
 pub make-reached : (program : List ℕ) (start : State) (n : ℕ) (e : Event) (w : World) → Reached program start n w
-    → Reached program start (n + acceptedCommit e (make program e w .number)) (make program e w .world)
+    → Reached program start (n + acceptedCommit e (makeEvent program e w .number)) (makeEvent program e w .world)
 make-reached program start n e w r =
     record {
-      fit = fit-turn program w (r .fit) (callIn e) (make program e w) (turn program e w);
-      safe = turn-safe program start n w (r .fit) (callIn e) (make program e w) (r .safe) (turn program e w);
+      fit = fit-turn program w (r .fit) (callIn e) (makeEvent program e w) (turn program e w);
+      safe = turn-safe program start n w (r .fit) (callIn e) (makeEvent program e w) (r .safe) (turn program e w);
     }
 
 pub all-reached : (program : List ℕ) (start : State) (events : List Event) (n : ℕ) (w : World) → Reached program start n w
@@ -157,6 +160,6 @@ pub all-reached : (program : List ℕ) (start : State) (events : List Event) (n 
 unfolding makeAll acceptedCommits
 all-reached program start [] n w r = subst (λ (x : ℕ). Reached program start x w) (sym (add-zero n)) r
 all-reached program start (e ∷ events) n w r =
-    let made : Made = make program e w in
+    let made : Made = makeEvent program e w in
     subst (λ (x : ℕ). Reached program start x (makeAll program events (made .world))) (add-assoc n (acceptedCommit e (made .number)) (acceptedCommits program events (made .world)))
     (all-reached program start events (n + acceptedCommit e (made .number)) (made .world) (make-reached program start n e w r))

@@ -27,7 +27,10 @@ use Rattle.stealing.specs.Steal.{victimOf, noVictim, robbed}
 use Rattle.committing.specs.Commit.{commitRefusal, haltedBy, retired, committed, writtenBy, Commit, commitBy, commitOf}
 use Rattle.core.specs.declared.Core.{Core}
 use Rattle.core.specs.declared.Answer.{Answer}
-use Rattle.agreement.specs.Lists.{Call, decode, issue, complete, commit, Event, own, other, World, Made, madeBy, callOf, aside, make, callIn}
+use Rattle.window.specs.Calls.{World, Made, madeBy, callOf, make}
+use Rattle.window.specs.declared.Call.{Call}
+use Rattle.window.specs.declared.Call.the-variants.{Decode as decode, Issue as issue, Complete as complete, Commit as commit}
+use Rattle.agreement.specs.Lists.{Event, own, other, aside, callIn, makeEvent}
 use Rattle.agreement.proofs.Refusals.{none-first, in-turn, in-turn-lent, is-zero, and-false}
 use Rattle.agreement.proofs.Victims.{victim-is}
 
@@ -56,7 +59,7 @@ pub data Turn (program : List ℕ) (w : World) (call : Call) (made : Made) : Typ
   takes : (i : ℕ) → call ≡ complete i → Goes (w .core) i → (entryAt (w .core) i .destination ≡ 0 → ⊥) → (w .core .registerhead ≡ 0 → ⊥)
       → made ≡ madeBy (redirected i (outcomeAt (w .core) i .next) (learned i (w .core .registerhead) (outcomeAt (w .core) i .result) (w .core))) (w .memory) 0 → Turn program w call made
   steals : (i v : ℕ) → call ≡ complete i → Goes (w .core) i → (entryAt (w .core) i .destination ≡ 0 → ⊥) → w .core .registerhead ≡ 0
-      → i < v → v < w .core .count → (held (w .core .physical) (entryAt (w .core) v) ≡ 0 → ⊥)
+      → v ≡ victimOf (w .core) i → i < v → v < w .core .count → (held (w .core .physical) (entryAt (w .core) v) ≡ 0 → ⊥)
       → made ≡ madeBy (redirected i (outcomeAt (w .core) i .next) (learned i (held (w .core .physical) (entryAt (w .core) v)) (outcomeAt (w .core) i .result) (robbed v (w .core)))) (w .memory) 0
       → Turn program w call made
   retires : call ≡ commit → At (w .core) 0 Completed → entryAt (w .core) 0 .stop .cause ≡ 0
@@ -139,7 +142,7 @@ module _ (program : List ℕ) (w : World) where
       let v : ℕ = victimOf m i in
       let y = victim-is (m .count - suc i) (m .physical) (m .entries) i (eqb-false v i (and-false (needsRegister m i && noneFree m) (noVictim m i) free needs)) in
       steals i v refl (record { at = h; calm = eqb-true (outcomeAt m i .stop .cause) 0 ea }) (eqb-false (entryAt m i .destination) 0 eb) (eqb-true (m .registerhead) 0 ec)
-      (y .0) (omega (arith, y .1, h .there)) (y .2) refl
+      refl (y .0) (omega (arith, y .1, h .there)) (y .2) refl
 
   complete-turn : (i : ℕ) → Turn program w (complete i) (callOf program (w .memory) (complete i) m)
   unfolding completeOf completeRefusal
@@ -221,8 +224,8 @@ module _ (program memory : List ℕ) (m : Core) (l : lentRefusal m program memor
   call-turned (complete i) = answer-turned (completeRefusal i m) (completed i m) memory
   call-turned commit = commit-turned (commitRefusal m)
 
-pub turn : (program : List ℕ) (e : Event) (w : World) → Turn program w (callIn e) (make program e w)
-unfolding make
+pub turn : (program : List ℕ) (e : Event) (w : World) → Turn program w (callIn e) (makeEvent program e w)
+unfolding make makeEvent
 turn program (own call) w = call-turn program w call
 turn program (other call bytes memory) w = at (lengthsDiffer (w .core) bytes memory) refl
   where

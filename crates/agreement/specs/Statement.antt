@@ -1,4 +1,4 @@
--- Demand 3: "For every list of calls on a fresh machine, wherever it breaks off, the committed state equals the in-order run; and at most four further calls commit or halt."
+-- Demand 3: "For every list of decode, issue, complete and commit calls on a fresh machine, refused calls included and whatever the guesses and positions, this holds wherever the list breaks off."
 use Prim.Native.Nat.{ℕ, _+_}
 use mathlib.Core.Path.{_≡_}
 use mathlib.Core.List.{List}
@@ -7,23 +7,26 @@ use lib.ListN.{length}
 use Rattle.isa.specs.Reads.{choose}
 use Rattle.reference.specs.Run.{Run, runOf}
 use Rattle.ranges.specs.Sizes.{setUpRefusal}
-use Rattle.core.specs.Report.{reportOf}
-use Rattle.agreement.specs.Lists.{Event, World, makeAll, acceptedCommits, started, origin, CommitsWithin}
+use Rattle.window.specs.Calls.{World}
+use Rattle.window.specs.Report.{reportOf}
+use Rattle.agreement.specs.Lists.{Event, makeAll, acceptedCommits, started, origin, CommitsWithin}
 
--- a world after so many accepted commits, against the in-order run asked for as many steps
+-- a machine and the data after a list, with the number of its accepted commits, and the run that was asked for as many steps
 pub record Agrees (program : List ℕ) (w : World) (commits : ℕ) (run : Run) : Type 0 where
-  -- the reported registers x1–x31, x0 being 0 in both; the report is not refused
+  -- "The committed registers x1–x31 as reported": x0 is 0 in both, and the report is not refused
   pub registers : reportOf (w .core) ≡ record { registers = run .state .registers; number = 0 }
-  -- every data byte
+  -- "every data byte"
   pub memory : w .memory ≡ run .state .memory
-  -- next address, and halt with its cause
+  -- "the next address"
   pub next : w .core .next ≡ run .state .address
+  -- "and the halt cause (0 for none) equal those of the in-order run"
   pub halt : w .core .halt ≡ run .stop
-  -- the run makes all of its steps, or all but the last if halted
+  -- "That run makes them all, or all but the last if the machine has halted."
   pub steps : commits ≡ run .steps + choose (eqb (w .core .halt .cause) 0) 0 1
-  -- unless halted, at most four further calls are all accepted and the last is a commit
+  -- "Unless the machine has halted, at most four further calls, none of them refused, commit the next instruction or halt."
   pub onward : w .core .halt .cause ≡ 0 → CommitsWithin 4 program w
 
+-- the list is cut where it breaks off; its run is "from zeroed registers, address 0 and the same starting data, asked for as many steps as the list had accepted commits"
 abbrev pub Statement : Type 0
 Statement =
     (window registers : ℕ) (program memory : List ℕ) → setUpRefusal window registers (length program) (length memory) ≡ 0

@@ -6,7 +6,8 @@ use mathlib.Core.List.{List}
 use lib.ListN.{length}
 use Rattle.ranges.specs.Sizes.{setUpRefusal}
 use Rattle.core.specs.Range.{machineInRange}
-use Rattle.agreement.specs.Lists.{Event, World, makeAll, started}
+use Rattle.window.specs.Calls.{World}
+use Rattle.agreement.specs.Lists.{Event, makeAll, started}
 
 abbrev pub Unrefused : Type 0
 Unrefused =

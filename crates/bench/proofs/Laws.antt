@@ -4,7 +4,8 @@ use mathlib.Core.Path.{_≡_, refl, sym, subst}
 use mathlib.Core.List.{List}
 use native.Mathlib.Omega.{arith}
 use Rattle.reference.specs.Run.{runOf}
-use Rattle.agreement.specs.Lists.{World, acceptedCommits, origin}
+use Rattle.window.specs.Calls.{World}
+use Rattle.agreement.specs.Lists.{acceptedCommits, origin}
 use Rattle.agreement.specs.Statement.{Agrees}
 use Rattle.agreement.proofs.Demand.{statement as demand}
 use Rattle.formats.specs.Schedule.{windowIn, registersIn}

@@ -16,7 +16,10 @@ use Rattle.stealing.specs.Steal.{robbed}
 use Rattle.completing.specs.Complete.{outcomeAt, learned}
 use Rattle.committing.specs.Commit.{haltedBy, retired}
 use Rattle.formats.specs.declared.Record.{Record}
-use Rattle.agreement.specs.Lists.{Call, commit, own, World, Made, madeBy, make, isCommit, acceptedCommits}
+use Rattle.window.specs.Calls.{World, Made, madeBy, isCommit, make}
+use Rattle.window.specs.declared.Call.{Call}
+use Rattle.window.specs.declared.Call.the-variants.{Commit as commit}
+use Rattle.agreement.specs.Lists.{own, acceptedCommits}
 use Rattle.agreement.proofs.Turns.{Turn, refused, enters, issues, ends, settles, takes, steals, retires, halts, turn}
 use Rattle.agreement.proofs.Fits.{steady-issued}
 use Rattle.agreement.proofs.Steady.{Steady, steady-both, steady-enter, steady-place, steady-learned, steady-robbed, steady-redirected, steady-retired, halted-halt}
@@ -71,7 +74,7 @@ counted-turn program w call made (takes i q goes some free e) =
     let m : Core = w .core in
     let taught : Core = learned i (m .registerhead) (outcomeAt m i .result) m in
     counted-made w call made _ _ _ e (counted-quiet w call _ (ap isCommit q) (steady-both m taught _ (steady-learned i _ _ m) (steady-redirected i _ taught)))
-counted-turn program w call made (steals i v q goes some none above there holds e) =
+counted-turn program w call made (steals i v q goes some none victim above there holds e) =
     let m : Core = w .core in
     let taught : Core = learned i (held (m .physical) (entryAt m v)) (outcomeAt m i .result) (robbed v m) in
     counted-made w call made _ _ _ e
@@ -87,12 +90,12 @@ committed-is call before after c true = refl
 committed-is call before after c false = omega arith
 
 played-commits : (program : List ℕ) (r : Record) (p : Played)
-    → let made : Made = make program (own (callBy r)) (p .world) in
+    → let made : Made = make program (callBy r) (p .world) in
     played program r p .counts .committed + haltingCommit (played program r p .world .core)
     ≡ p .counts .committed + haltingCommit (p .world .core) + choose (isCommit (callBy r)) (choose (eqb (made .number) 0) 1 0) 0
 unfolding played
 played-commits program r p =
-    let made : Made = make program (own (callBy r)) (p .world) in
+    let made : Made = make program (callBy r) (p .world) in
     let one = committed-is (callBy r) (p .world .core) (made .world .core) (p .counts) (eqb (made .number) 0) in
     let turned : Counted (p .world) (callBy r) (made .world .core) (made .number) = counted-turn program (p .world) (callBy r) made (turn program (own (callBy r)) (p .world)) in
     omega arith

@@ -15,7 +15,9 @@ use Rattle.completing.specs.Complete.{completeWithin}
 use Rattle.completing.proofs.CompleteLaws.{complete-lent}
 use Rattle.committing.specs.Commit.{Commit, commitWithin}
 use Rattle.committing.proofs.CommitLaws.{commit-lent}
-use Rattle.agreement.specs.Lists.{Call, decode, issue, complete, commit, own, World, madeBy, make}
+use Rattle.window.specs.Calls.{World, madeBy, make}
+use Rattle.window.specs.declared.Call.{Call}
+use Rattle.window.specs.declared.Call.the-variants.{Decode as decode, Issue as issue, Complete as complete, Commit as commit}
 use Rattle.events.specs.declared.Counts.{Counts}
 use Rattle.events.specs.Counts.{callBy, commits, steals, drops, accepting, refusing, Played, played}
 use Rattle.events.specs.Numbers.{adding}
@@ -41,32 +43,32 @@ module _ (program memory : List ℕ) (m : Core) (lent : lentRefusal m program me
   abbrev w : World
   w = record { core = m; memory = memory }
 
-  pub decode-made : (call : Call) (guess : ℕ) (a : Answer) → call ≡ decode guess → a ≡ decodeWithin program guess m → make program (own call) w ≡ madeBy (a .core) memory (a .number)
+  pub decode-made : (call : Call) (guess : ℕ) (a : Answer) → call ≡ decode guess → a ≡ decodeWithin program guess m → make program call w ≡ madeBy (a .core) memory (a .number)
   unfolding make
   decode-made call guess a q e =
-      ap (λ (x : Call). make program (own x) w) q ∙ ap (λ (x : Answer). madeBy (x .core) memory (x .number)) (sym (e ∙ decode-lent program memory guess m lent))
+      ap (λ (x : Call). make program x w) q ∙ ap (λ (x : Answer). madeBy (x .core) memory (x .number)) (sym (e ∙ decode-lent program memory guess m lent))
 
-  pub issue-made : (call : Call) (position : ℕ) (a : Answer) → call ≡ issue position → a ≡ issueWithin memory position m → make program (own call) w ≡ madeBy (a .core) memory (a .number)
+  pub issue-made : (call : Call) (position : ℕ) (a : Answer) → call ≡ issue position → a ≡ issueWithin memory position m → make program call w ≡ madeBy (a .core) memory (a .number)
   unfolding make
   issue-made call position a q e =
-      ap (λ (x : Call). make program (own x) w) q ∙ ap (λ (x : Answer). madeBy (x .core) memory (x .number)) (sym (e ∙ issue-lent program memory position m lent))
+      ap (λ (x : Call). make program x w) q ∙ ap (λ (x : Answer). madeBy (x .core) memory (x .number)) (sym (e ∙ issue-lent program memory position m lent))
 
-  pub complete-made : (call : Call) (position : ℕ) (a : Answer) → call ≡ complete position → a ≡ completeWithin position m → make program (own call) w ≡ madeBy (a .core) memory (a .number)
+  pub complete-made : (call : Call) (position : ℕ) (a : Answer) → call ≡ complete position → a ≡ completeWithin position m → make program call w ≡ madeBy (a .core) memory (a .number)
   unfolding make
   complete-made call position a q e =
-      ap (λ (x : Call). make program (own x) w) q ∙ ap (λ (x : Answer). madeBy (x .core) memory (x .number)) (sym (e ∙ complete-lent program memory position m lent))
+      ap (λ (x : Call). make program x w) q ∙ ap (λ (x : Answer). madeBy (x .core) memory (x .number)) (sym (e ∙ complete-lent program memory position m lent))
 
-  pub commit-made : (call : Call) (a : Answer) (written : List ℕ) → call ≡ commit → commitWithin memory m ≡ record { answer = a; memory = written } → make program (own call) w ≡ madeBy (a .core) written (a .number)
+  pub commit-made : (call : Call) (a : Answer) (written : List ℕ) → call ≡ commit → commitWithin memory m ≡ record { answer = a; memory = written } → make program call w ≡ madeBy (a .core) written (a .number)
   unfolding make
   commit-made call a written q e =
-      ap (λ (x : Call). make program (own x) w) q ∙ ap (λ (x : Commit). madeBy (x .answer .core) (x .memory) (x .answer .number)) (commit-lent program memory m lent ∙ e)
+      ap (λ (x : Call). make program x w) q ∙ ap (λ (x : Commit). madeBy (x .answer .core) (x .memory) (x .answer .number)) (commit-lent program memory m lent ∙ e)
 
 adding-is : (call : Call) (before after : Core) (c : Counts) (a b d : ℕ) → a ≡ commits call after → b ≡ steals call before → d ≡ drops call before after → adding a b d c ≡ accepting call before after c
 adding-is call before after c a b d p q r = rw (p, q, r)
 
 -- what an event leaves
 module _ (program memory : List ℕ) (m : Core) (r : Record) (counts : Counts) (next : Core) (written : List ℕ) (number : ℕ) (after : Counts)
-    (e : make program (own (callBy r)) (record { core = m; memory = memory }) ≡ madeBy next written number) where
+    (e : make program (callBy r) (record { core = m; memory = memory }) ≡ madeBy next written number) where
   abbrev begin : Played
   begin = record { world = record { core = m; memory = memory }; counts = counts }
 

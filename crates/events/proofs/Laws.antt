@@ -10,7 +10,9 @@ use lib.ListN.{length}
 use Rattle.isa.specs.Reads.{choose}
 use Rattle.formats.specs.declared.Record.{Record}
 use Rattle.core.specs.declared.Core.{Core}
-use Rattle.agreement.specs.Lists.{Call, own, Made, make, makeAll, isCommit}
+use Rattle.window.specs.Calls.{Made, isCommit, make}
+use Rattle.window.specs.declared.Call.{Call}
+use Rattle.agreement.specs.Lists.{makeAll}
 use Rattle.events.specs.declared.Counts.{Counts}
 use Rattle.events.specs.Counts.{callBy, accepting, refusing, Played, played, playedAll}
 use Rattle.events.specs.Statement.{callsOf, haltingCommit, countedFrom, Statement}
@@ -35,7 +37,7 @@ module _ (call : Call) (before after : Core) (c : Counts) where
 -- one event
 module _ (program : List ℕ) (r : Record) (p : Played) where
   abbrev made : Made
-  made = make program (own (callBy r)) (p .world)
+  made = make program (callBy r) (p .world)
 
   played-counted : played program r p .counts .accepted + played program r p .counts .refused ≡ suc (p .counts .accepted + p .counts .refused)
   unfolding played

@@ -7,7 +7,9 @@ use Rattle.isa.specs.Reads.{choose}
 use Rattle.formats.specs.declared.Record.{Record}
 use Rattle.core.specs.declared.Core.{Core}
 use Rattle.completing.specs.Complete.{needsRegister, noneFree}
-use Rattle.agreement.specs.Lists.{Call, decode, issue, complete, commit, own, World, Made, make, isCommit}
+use Rattle.window.specs.Calls.{World, Made, isCommit, make}
+use Rattle.window.specs.declared.Call.{Call}
+use Rattle.window.specs.declared.Call.the-variants.{Decode as decode, Issue as issue, Complete as complete, Commit as commit}
 use Rattle.events.specs.declared.Counts.{Counts}
 
 -- "Kinds: 1 decode, 2 issue, 3 complete, 4 commit."
@@ -61,7 +63,7 @@ pub record Played : Type 0 where
 -- one event
 unfoldable pub played : List ℕ → Record → Played → Played
 played program r p =
-    let made : Made = make program (own (callBy r)) (p .world) in
+    let made : Made = make program (callBy r) (p .world) in
     record {
       world = made .world;
       counts = choose (eqb (made .number) 0) (accepting (callBy r) (p .world .core) (made .world .core) (p .counts)) (refusing (p .counts));

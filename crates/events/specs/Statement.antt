@@ -7,7 +7,8 @@ use lib.ListN.{length}
 use Rattle.isa.specs.Reads.{choose}
 use Rattle.formats.specs.declared.Record.{Record}
 use Rattle.core.specs.declared.Core.{Core}
-use Rattle.agreement.specs.Lists.{Event, own, World, makeAll, acceptedCommits}
+use Rattle.window.specs.Calls.{World}
+use Rattle.agreement.specs.Lists.{Event, own, makeAll, acceptedCommits}
 use Rattle.events.specs.Counts.{callBy, Played, playedAll, noCounts}
 
 -- the list of calls that demand 3 speaks of

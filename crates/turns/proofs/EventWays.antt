@@ -36,7 +36,9 @@ use Rattle.completing.specs.Complete.{outcomeAt, needsRegister, noneFree, compl
 use Rattle.completing.proofs.CompleteLaws.{supplied, has-victim, refused-register, without-register, free-register, stolen-register, registered-count, finish-stops, finish-goes, learned-is}
 use Rattle.committing.specs.Commit.{commitRefusal, moveDown, retired, stoppedWith, haltedBy, commitWithin}
 use Rattle.committing.proofs.CommitLaws.{shifted, shift-done, retired-is, commit-retires, commit-halts, commit-refused}
-use Rattle.agreement.specs.Lists.{Call, decode, issue, complete, commit, own, madeBy, make}
+use Rattle.window.specs.Calls.{madeBy, make}
+use Rattle.window.specs.declared.Call.{Call}
+use Rattle.window.specs.declared.Call.the-variants.{Decode as decode, Issue as issue, Complete as complete, Commit as commit}
 use Rattle.agreement.proofs.Accepts.{and-none}
 use Rattle.events.specs.declared.Counts.{Counts}
 use Rattle.events.specs.Counts.{callBy, refusing, Played, played}
@@ -57,7 +59,7 @@ given m = record { core = m; number = 0 }
 
 -- a refused call hands the machine back
 refused-made : (program memory : List ℕ) (m : Core) → lentRefusal m program memory ≡ 0 → (call : Call) → (refusalBy call m ≡ 0 → ⊥)
-    → make program (own call) (record { core = m; memory = memory }) ≡ madeBy m memory (refusalBy call m)
+    → make program call (record { core = m; memory = memory }) ≡ madeBy m memory (refusalBy call m)
 unfolding decodeWithin issueWithin completeWithin commitWithin
 refused-made program memory m lent (decode guess) some = decode-made program memory m lent (decode guess) guess _ refl (answered-refused m _ (decodeRefusal m) (decodeRefusal m) refl some)
 refused-made program memory m lent (issue n) some = issue-made program memory m lent (issue n) n _ refl (answered-refused m _ (issueRefusal n m) (issueRefusal n m) refl some)

@@ -19,7 +19,10 @@ use Rattle.core.specs.declared.Core.{Core}
 use Rattle.core.proofs.RefusalLaws.{passed, both-none}
 use Rattle.core.proofs.RangeLaws.{in-range-count}
 use Rattle.completing.specs.Complete.{needsRegister, noneFree}
-use Rattle.agreement.specs.Lists.{Call, decode, issue, complete, commit, own, World, Made, make, isCommit, origin}
+use Rattle.window.specs.Calls.{World, Made, isCommit, make}
+use Rattle.window.specs.declared.Call.{Call}
+use Rattle.window.specs.declared.Call.the-variants.{Decode as decode, Issue as issue, Complete as complete, Commit as commit}
+use Rattle.agreement.specs.Lists.{own, origin}
 use Rattle.agreement.proofs.Kept.{Kept}
 use Rattle.agreement.proofs.Safe.{Reached, make-reached}
 use Rattle.agreement.proofs.Reaching.{started-reached, reached-range, reached-lent}
@@ -184,7 +187,7 @@ module _ {program memory schedule : List ℕ} {left index : ℕ} {m : Core} {byt
         → Going program memory schedule (left - 1) (r .next) (p .world .core) (p .world .memory) (p .counts)
     unfolding played
     goes-on r at p e =
-        let made : Made = make program (own (callBy r)) w in
+        let made : Made = make program (callBy r) w in
         let same : p .world ≡ made .world = ap (λ (x : Played). x .world) e in
         let added = counts-most ((records schedule - left) * 64) (callBy r) m (made .world .core) counts (eqb (made .number) 0) few (g .small) in
         record {

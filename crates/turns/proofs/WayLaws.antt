@@ -23,7 +23,8 @@ use Rattle.completing.specs.Complete.{completeRefusal}
 use Rattle.completing.proofs.CompleteLaws as Completing
 use Rattle.committing.specs.Commit.{commitRefusal}
 use Rattle.committing.proofs.CommitLaws as Committing
-use Rattle.agreement.specs.Lists.{Call, decode, issue, complete, commit}
+use Rattle.window.specs.declared.Call.{Call}
+use Rattle.window.specs.declared.Call.the-variants.{Decode as decode, Issue as issue, Complete as complete, Commit as commit}
 use Rattle.events.specs.Counts.{callBy}
 use Rattle.events.proofs.EventLaws.{by-decode, by-issue, by-complete, by-commit}
 use Rattle.turns.specs.declared.Way.{Way}

@@ -9,7 +9,7 @@ use Rattle.laws.proofs.Bools.{and-left, and-right}
 use Rattle.isa.specs.Reads.{readOf}
 use Rattle.execution.specs.Execute.{compute, executed}
 use Rattle.reference.specs.Step.{stepWith}
-use Rattle.agreement.specs.Lists.{Call}
+use Rattle.window.specs.declared.Call.{Call}
 use Rattle.worked.specs.Calls.{twoAddi, after, further, answers}
 use Rattle.worked.specs.Claims.{Claim, reads, computes, executes, steps, answer, show, refuse, _and_, sixteen, test, Says}
 use Rattle.worked.proofs.SameLaws.{list-same, reading-same, outcome-same, step-same}

@@ -12,7 +12,9 @@ use Rattle.decoding.specs.Decode.{decodeRefusal, decoded, decodeOf}
 use Rattle.issuing.specs.Issue.{issueRefusal, issued, issueOf}
 use Rattle.completing.specs.Complete.{completeRefusal, completed, completeOf}
 use Rattle.committing.specs.Commit.{Commit, commitRefusal, committed, writtenBy, commitBy, commitOf}
-use Rattle.agreement.specs.Lists.{Call, decode, issue, complete, commit, own, World, Made, madeBy, make}
+use Rattle.window.specs.Calls.{World, Made, madeBy, make}
+use Rattle.window.specs.declared.Call.{Call}
+use Rattle.window.specs.declared.Call.the-variants.{Decode as decode, Issue as issue, Complete as complete, Commit as commit}
 use Rattle.agreement.proofs.Tests.{by-choice}
 
 module _ (w : World) where
@@ -32,7 +34,7 @@ module _ (w : World) where
       (record { answer = record { core = committed (w .core); number = 0 }; memory = writtenBy (entryAt (w .core) 0) (w .memory) })
       (record { answer = record { core = w .core; number = refusal }; memory = w .memory }) (λ e z. absurd (z refl)) (λ e z. refl)
 
-  pub call-stays : (program : List ℕ) (call : Call) → Stays (make program (own call) w)
+  pub call-stays : (program : List ℕ) (call : Call) → Stays (make program call w)
   unfolding make decodeOf issueOf completeOf commitOf
   call-stays program (decode guess) =
       answered-stays (decoded program guess (w .core)) (inTurn (lentRefusal (w .core) program (w .memory)) (decodeRefusal (w .core)))

@@ -27,7 +27,8 @@ use Rattle.issuing.specs.Issue.{storeBelow, issueRefusal, issued, issueOf}
 use Rattle.completing.specs.Complete.{completeRefusal, learned, redirected, completeOf}
 use Rattle.stealing.specs.Steal.{victimAmong, robbed}
 use Rattle.committing.specs.Commit.{commitRefusal, moveDown, retired, commitOf}
-use Rattle.agreement.specs.Lists.{make, makeAll}
+use Rattle.window.specs.Calls.{make}
+use Rattle.agreement.specs.Lists.{makeAll}
 use Rattle.worked.specs.Same.{sameList}
 use Rattle.worked.specs.Calls.{answersFrom}
 use Rattle.worked.specs.Claims.{test}

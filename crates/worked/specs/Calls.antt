@@ -10,7 +10,10 @@ use Rattle.tables.specs.Table.{lookUp}
 use Rattle.tables.specs.Entry.{stateNumber}
 use Rattle.core.specs.SetUp.{setUpOf}
 use Rattle.core.specs.Changes.{entryAt}
-use Rattle.agreement.specs.Lists.{Call, decode, issue, complete, commit, own, World, Made, make, makeAll}
+use Rattle.window.specs.Calls.{World, Made, make}
+use Rattle.window.specs.declared.Call.{Call}
+use Rattle.window.specs.declared.Call.the-variants.{Decode as decode, Issue as issue, Complete as complete, Commit as commit}
+use Rattle.agreement.specs.Lists.{own, makeAll}
 
 -- ADDI x1, x0, 1 and ADDI x2, x0, 2
 abbrev pub twoAddi : List ℕ
@@ -26,12 +29,12 @@ after calls = makeAll twoAddi (map own calls) begun
 
 -- one call more
 abbrev pub further : List Call → Call → Made
-further calls call = make twoAddi (own call) (after calls)
+further calls call = make twoAddi call (after calls)
 
 -- the numbers that calls answer, each in its turn
 unfoldable pub answersFrom : World → List Call → List ℕ
 answersFrom w [] = []
-answersFrom w (call ∷ calls) = make twoAddi (own call) w .number ∷ answersFrom (make twoAddi (own call) w .world) calls
+answersFrom w (call ∷ calls) = make twoAddi call w .number ∷ answersFrom (make twoAddi call w .world) calls
 
 abbrev pub answers : List Call → List ℕ
 answers calls = answersFrom begun calls

@@ -11,7 +11,8 @@ use Rattle.execution.specs.Actions.{Alu}
 use Rattle.execution.specs.Execute.{compute, executed}
 use Rattle.reference.specs.Step.{State, Step, state, stepWith}
 use Rattle.execution.specs.declared.Outcome.{Outcome}
-use Rattle.agreement.specs.Lists.{Call, World}
+use Rattle.window.specs.Calls.{World}
+use Rattle.window.specs.declared.Call.{Call}
 use Rattle.worked.specs.Same.{sameList, sameReading, sameOutcome, sameStep}
 use Rattle.worked.specs.Calls.{after, further, answers}
 

@@ -10,7 +10,7 @@ use Rattle.isa.specs.Encodes.{minus}
 use Rattle.execution.specs.Actions.{ADD, SLT, SLTU, SRL, SRA}
 use Rattle.execution.specs.Execute.{stop, goes, stops}
 use Rattle.reference.specs.Step.{Step, reached}
-use Rattle.agreement.specs.Lists.{complete}
+use Rattle.window.specs.declared.Call.the-variants.{Complete as complete}
 use Rattle.worked.specs.Calls.{registerAt, destinationAt, stateAt, freeRegister, nextAddress, bothIssued, youngerFirst, robbing, committing, again, olderFirst}
 use Rattle.worked.specs.Claims.{Claim, reads, computes, executes, steps, answer, show, refuse, _and_, sixteen, test, Says}
 

@@ -7,7 +7,7 @@ use Rattle.isa.specs.Encodes.{minus}
 use Rattle.execution.specs.Actions.{ADD, SLT, SLTU, SRL, SRA}
 use Rattle.execution.specs.Execute.{goes, stops, compute, executed}
 use Rattle.reference.specs.Step.{stepWith}
-use Rattle.agreement.specs.Lists.{complete}
+use Rattle.window.specs.declared.Call.the-variants.{Complete as complete}
 use Rattle.worked.specs.Calls.{after, further, answers, registerAt, destinationAt, stateAt, freeRegister, nextAddress, bothIssued, youngerFirst, robbing, committing, again, olderFirst}
 use Rattle.worked.specs.Claims.{_also_, sixteen}
 use Rattle.worked.specs.Table.{loads, stopsBy}

@@ -11,7 +11,7 @@ use Rattle.tables.specs.Entry.{emptyEntry}
 use Rattle.core.proofs.OperationLaws.{in-range-operation}
 use Rattle.issuing.specs.Issue.{storeBelow}
 use Rattle.issuing.proofs.IssueLaws.{below-more, below-none}
-use Rattle.agreement.specs.Lists.{issue}
+use Rattle.window.specs.declared.Call.the-variants.{Issue as issue}
 use Rattle.turns.specs.declared.Way.the-variants.{Load}
 use Rattle.turns.proofs.Going.{in-range}
 use Rattle.turns.proofs.Turning.{settled}
