@@ -1,5 +1,5 @@
 -- What the proof asks of the instruction set; nothing else of it is opened.
-use Prim.Native.Nat.{ℕ, zero, suc, _<_}
+use Prim.Native.Nat.{ℕ, zero, suc, _≤_, _<_}
 use mathlib.Core.Path.{_≡_, refl, ap, sym, _∙_}
 use mathlib.Core.Logic.{_≢_}
 use mathlib.Core.Bool.{Bool, true, false}
@@ -10,7 +10,7 @@ use lib.Dec.{T, eqb}
 use lib.ListN.{length, getD, replicate}
 use lib.Seq.{getD-set-same}
 use Rattle.laws.proofs.Table.{at}
-use Rattle.isa.specs.Listing.{Format, R, I, S, B, U, J, Shift, Whole, formatOf}
+use Rattle.isa.specs.Listing.{Format, R, I, S, B, U, J, Shift, Whole, last, formatOf}
 use Rattle.isa.specs.Reads.{choose, none, legal, fieldsOf, operationOf, readAs, readOf}
 use Rattle.isa.specs.declared.Instruction.{Instruction}
 use Rattle.isa.proofs.ReadLaws.{legal-word, operation-kept}
@@ -86,9 +86,9 @@ isWhole Whole = true
 abbrev wholeWhereStops : ℕ → ℕ → Bool
 wholeWhereStops operation n = choose (eqb (causeBy (actionOf operation)) 0) true (isWhole (formatOf operation))
 
-whole-at : (operation : ℕ) → operation < 40 → T (wholeWhereStops operation (getD (replicate 40 0) operation 0))
+whole-at : (operation : ℕ) → operation ≤ last → T (wholeWhereStops operation (getD (replicate (suc last) 0) operation 0))
 unfolding causeBy
-whole-at operation h = at wholeWhereStops (replicate 40 0) tt operation h
+whole-at operation h = at wholeWhereStops (replicate (suc last) 0) tt operation (omega arith)
 
 is-whole : (F : Format) → T (isWhole F) → F ≡ Whole
 is-whole R t = absurd t
@@ -100,14 +100,14 @@ is-whole J t = absurd t
 is-whole Shift t = absurd t
 is-whole Whole t = refl
 
-format-whole : (operation : ℕ) → operation < 40 → causeBy (actionOf operation) ≢ 0 → formatOf operation ≡ Whole
+format-whole : (operation : ℕ) → operation ≤ last → causeBy (actionOf operation) ≢ 0 → formatOf operation ≡ Whole
 format-whole operation h z = is-whole (formatOf operation) (rw (ne-eqb _ 0 z) at (whole-at operation h))
 
 read-unnamed : (w : ℕ) (i : Instruction) → readOf w ≡ legal i → causeAtOnce i ≢ 0 → Unnamed i
 read-unnamed w i e z =
     let l = legal-word w i e in
     let o : i .operation ≡ l .operation = ap (λ (x : Instruction). x .operation) (l .is) ∙ operation-kept (formatOf (l .operation)) (l .operation) w in
-    let f : formatOf (l .operation) ≡ Whole = format-whole (l .operation) (omega (arith, l .last)) (λ q. z (ap (λ (x : ℕ). causeBy (actionOf x)) o ∙ q)) in
+    let f : formatOf (l .operation) ≡ Whole = format-whole (l .operation) (l .last) (λ q. z (ap (λ (x : ℕ). causeBy (actionOf x)) o ∙ q)) in
     rw (l .is, f) (whole-unnamed (l .operation) w)
 
 choose-unnamed : (b : Bool) (w : ℕ) → enteringCause (choose b (ofReading (readOf w)) (noInstruction 4)) ≢ 0 → Unnamed (choose b (ofReading (readOf w)) (noInstruction 4) .fields)

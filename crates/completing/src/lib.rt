@@ -2,6 +2,7 @@
 ghost use mathlib.Core.Path.{_≡_};
 ghost use mathlib.Core.Bool.{true};
 ghost use Prim.Native.Nat.{_≤_, _<_};
+ghost use Rattle.isa.specs.Listing.{last};
 ghost use Rattle.core.specs.Range.{machineInRange};
 ghost use Rattle.core.specs.Changes.{changeAll};
 ghost use Rattle.completing.specs.Complete as Complete;
@@ -33,7 +34,7 @@ fn wake_all(mut core: Core, name: u8, register: u8) -> Core
 
 // what the values read come to. Inner: this crate and replay's loop call it.
 pub fn outcome(s: Setup, e: Entry) -> Outcome
-    requires { ⌜ e .instruction .operation < 40 ⌝ }
+    requires { ⌜ e .instruction .operation ≤ last ⌝ }
     ensures { λ r. ⌜ r ≡ Complete.outcomeOf (s .bytes) e ⌝ }
 {
     let i = e.instruction;

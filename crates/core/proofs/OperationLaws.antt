@@ -10,6 +10,7 @@ use lib.Dec.{leb, eqb}
 use lib.ListN.{getD}
 use Rattle.laws.proofs.Bools.{and-left, and-right}
 use Rattle.isa.specs.Encodes.{accepted}
+use Rattle.isa.specs.Listing.{last}
 use Rattle.isa.proofs.Accepted.{accepted-says}
 use Rattle.isa.specs.declared.Instruction.{Instruction}
 use Rattle.tables.specs.Entry.{emptyEntry, isCompleted}
@@ -31,7 +32,7 @@ every-says test default from (suc count) zero table e h =
 every-says test default from (suc count) (suc k) table e h =
     rw (add-suc from k, ← suc-add from k) (every-says test default (suc from) count k table (and-right (test (getD table from default)) (everyFrom test default (suc from) count table) e) (omega arith))
 
-none-operation : (i : Instruction) → isNone i ≡ true → i .operation < 40
+none-operation : (i : Instruction) → isNone i ≡ true → i .operation ≤ last
 none-operation i e =
     let zero : i .operation ≡ 0 = eqb-true (i .operation) 0 (and-left _ _ (and-left _ _ (and-left _ _ (and-left _ _ e)))) in
     omega arith
@@ -40,7 +41,7 @@ either : (a b : Bool) → a || b ≡ true → {C : Type 0} → (a ≡ true → C
 either true b e f g = f refl
 either false b e f g = g e
 
-entry-operation : (s : Setup) (e : Entry) → entryInRange s e ≡ true → e .instruction .operation < 40
+entry-operation : (s : Setup) (e : Entry) → entryInRange s e ≡ true → e .instruction .operation ≤ last
 unfolding entryInRange
 entry-operation s e t =
     let i = e .instruction in
@@ -48,10 +49,10 @@ entry-operation s e t =
     let c = isCompleted (e .state) in
     let d = eqb (e .stop .cause) 1 || eqb (e .stop .cause) 4 in
     let holds = and-left _ _ (and-left _ _ (and-left _ _ (and-left _ _ (and-left _ _ (and-left _ _ (and-left _ _ t)))))) in
-    either (accepted i) (b && c && d) holds {C = i .operation < 40} (λ a. let l : i .operation ≤ 39 = accepted-says i a .last in omega arith) (λ n. none-operation i (and-left b c (and-left (b && c) d n)))
+    either (accepted i) (b && c && d) holds {C = i .operation ≤ last} (λ a. accepted-says i a .last) (λ n. none-operation i (and-left b c (and-left (b && c) d n)))
 
 -- an entry of a machine in range
-pub in-range-operation : (m : Core) (k : ℕ) → machineInRange m ≡ true → k < m .count → getD (m .entries) k emptyEntry .instruction .operation < 40
+pub in-range-operation : (m : Core) (k : ℕ) → machineInRange m ≡ true → k < m .count → getD (m .entries) k emptyEntry .instruction .operation ≤ last
 unfolding machineInRange
 in-range-operation m k t h =
     let a = setupInRange (m .setup) && leb (m .count) (m .setup .window) && tablesInRange m in

@@ -5,6 +5,7 @@ ghost use mathlib.Core.Bool.{not};
 ghost use Prim.Native.Nat.{_<_, _≤_};
 ghost use lib.ListN.{length};
 ghost use lib.Dec.{leb, eqb};
+ghost use Rattle.isa.specs.Listing.{last};
 ghost use Rattle.isa.specs.Reads.{choose};
 ghost use Rattle.reference.specs.Step.{when, first};
 ghost use Rattle.reference.specs.Fetch.{fetchAt, fetchNumbers};
@@ -119,7 +120,7 @@ fn started<'a>(
     i: Instruction,
     guess: u32,
 ) -> Entry
-    requires { ⌜ (i .operation < 40) × (length (now mapname) ≡ 32) × (length (now mapregister) ≡ 32) × (length (now mapvalid) ≡ 32) ⌝ }
+    requires { ⌜ (i .operation ≤ last) × (length (now mapname) ≡ 32) × (length (now mapregister) ≡ 32) × (length (now mapvalid) ≡ 32) ⌝ }
     ensures { λ r. ⌜ r ≡ Decode.startedEntry (seen (now (mapname .entry)) (now (mapregister .entry)) (now (mapvalid .entry)) head address) i guess ⌝ }
 {
     let one = reference::first_source(i);

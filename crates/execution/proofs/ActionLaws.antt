@@ -11,6 +11,7 @@ use lib.ListN.{getD, List·getD-map, List·getD-eq-default}
 use Rattle.laws.proofs.Bools.{and-left, and-right, implied, true-of}
 use Rattle.laws.proofs.Lists.{getD-within}
 use Rattle.laws.proofs.Table.{at}
+use Rattle.isa.specs.Listing.{last}
 use Rattle.execution.specs.Actions.{Alu, ADD, SUB, SLL, SLT, SLTU, XOR, SRL, SRA, OR, AND, Condition, EQ, NE, LT, GE, LTU, GEU, Upper, UpperAddress, Jump, JumpRegister, Branch, Immediate, Register, Action, Computes, LoadsSigned, LoadsUnsigned, Stores, Stops, actions, actionOf}
 use Rattle.execution.specs.Codes.{aluCode, aluAt, conditionCode, conditionAt, class, kind, actionAt, classes, kinds, Sized}
 
@@ -50,17 +51,17 @@ action-code (Stops cause) = refl
 pub class-at : (operation : ℕ) → getD classes operation 0 ≡ class (actionOf operation)
 class-at operation = List·getD-map class actions operation (Stops 1)
 
-pub kind-at : (operation : ℕ) → operation < 40 → getD kinds operation 0 ≡ kind (actionOf operation)
-kind-at operation h = getD-within kinds operation 0 1 h ∙ List·getD-map kind actions operation (Stops 1)
+pub kind-at : (operation : ℕ) → operation ≤ last → getD kinds operation 0 ≡ kind (actionOf operation)
+kind-at operation h = getD-within kinds operation 0 1 (omega arith) ∙ List·getD-map kind actions operation (Stops 1)
 
-action-at : (operation : ℕ) → operation < 40 → actionAt (getD classes operation 0) (getD kinds operation 0) ≡ actionOf operation
+action-at : (operation : ℕ) → operation ≤ last → actionAt (getD classes operation 0) (getD kinds operation 0) ≡ actionOf operation
 action-at operation h =
     ap (λ (c : ℕ). actionAt c (getD kinds operation 0)) (class-at operation)
     ∙ ap (λ (k : ℕ). actionAt (class (actionOf operation)) k) (kind-at operation h)
     ∙ action-code (actionOf operation)
 
 -- the same of numbers that were read from the tables
-pub action-of : (operation class kind : ℕ) → operation < 40 → class ≡ getD classes operation 0 → kind ≡ getD kinds operation 0 → actionAt class kind ≡ actionOf operation
+pub action-of : (operation class kind : ℕ) → operation ≤ last → class ≡ getD classes operation 0 → kind ≡ getD kinds operation 0 → actionAt class kind ≡ actionOf operation
 action-of operation class kind h c k = ap (λ (x : ℕ). actionAt x kind) c ∙ ap (λ (x : ℕ). actionAt (getD classes operation 0) x) k ∙ action-at operation h
 
 -- a number is the class of its action, or no class at all
@@ -81,15 +82,15 @@ code-class (suc (suc (suc (suc (suc (suc (suc (suc (suc (suc (suc n))))))))))) k
 pub of-class : (c kind k : ℕ) → (k ≡ 0 → ⊥) → class (actionAt c kind) ≡ k → c ≡ k
 of-class c kind k h e = ⊎-elim (λ p. sym p ∙ e) (λ p. absurd (h (sym e ∙ p))) (code-class c kind)
 
-pub stores : (operation c k : ℕ) → operation < 40 → c ≡ getD classes operation 0 → k ≡ getD kinds operation 0 → c ≡ 10 → actionOf operation ≡ Stores k
+pub stores : (operation c k : ℕ) → operation ≤ last → c ≡ getD classes operation 0 → k ≡ getD kinds operation 0 → c ≡ 10 → actionOf operation ≡ Stores k
 stores operation c k h hc hk e = sym (action-of operation c k h hc hk) ∙ ap (λ (x : ℕ). actionAt x k) e
 
 -- the sizes of loads and stores
 abbrev sized : ℕ → ℕ → Bool
 sized operation class = (not (leb 8 class) || leb 1 (getD kinds operation 0) && leb (getD kinds operation 0) 4) && (not (eqb class 8) || leb (getD kinds operation 0) 3)
 
-sized-at : (operation : ℕ) → operation < 40 → T (sized operation (getD classes operation 0))
-sized-at operation h = at sized classes tt operation h
+sized-at : (operation : ℕ) → operation ≤ last → T (sized operation (getD classes operation 0))
+sized-at operation h = at sized classes tt operation (omega arith)
 
 sized-says : (class kind : ℕ) → T ((not (leb 8 class) || leb 1 kind && leb kind 4) && (not (eqb class 8) || leb kind 3)) → Sized class kind
 sized-says class kind t =
@@ -102,7 +103,7 @@ sized-says class kind t =
       signed = λ h. let p = leb-true kind 3 (implied (eqb class 8) (leb kind 3) (eq-eqb class 8 h) (and-right a b e)) in omega arith;
     }
 
-pub sized-of : (operation : ℕ) → operation < 40 → Sized (getD classes operation 0) (getD kinds operation 0)
+pub sized-of : (operation : ℕ) → operation ≤ last → Sized (getD classes operation 0) (getD kinds operation 0)
 sized-of operation h = sized-says (getD classes operation 0) (getD kinds operation 0) (sized-at operation h)
 
 six-of : (n : ℕ) → 1 ≤ n → (n ≡ 1 → ⊥) → (n ≡ 2 → ⊥) → (n ≡ 3 → ⊥) → (n ≡ 4 → ⊥) → (n ≡ 5 → ⊥) → 6 ≤ n
@@ -115,7 +116,7 @@ nine : (n : ℕ) → 5 ≤ n → (n ≡ 5 → ⊥) → (n ≡ 6 → ⊥) → (n 
 nine n l n5 n6 n7 n8 = omega arith
 
 -- the same of numbers that were read from the tables
-pub sized-read : (operation class kind : ℕ) → operation < 40 → class ≡ getD classes operation 0 → kind ≡ getD kinds operation 0 → Sized class kind
+pub sized-read : (operation class kind : ℕ) → operation ≤ last → class ≡ getD classes operation 0 → kind ≡ getD kinds operation 0 → Sized class kind
 sized-read operation class kind h c k = subst (λ (x : ℕ). Sized x kind) (sym c) (subst (λ (x : ℕ). Sized (getD classes operation 0) x) (sym k) (sized-of operation h))
 
 -- numbers that name nothing stand for the last

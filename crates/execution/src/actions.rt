@@ -2,12 +2,13 @@
 // constant, 7 sum of registers, 8 signed load, 9 unsigned load, 10 store) and, within it, the arithmetic function, the
 // condition, the size in bytes or the cause. Both are matches, since a const table is built anew at each use.
 ghost use mathlib.Core.Path.{_≡_};
-ghost use Prim.Native.Nat.{_<_};
+ghost use Prim.Native.Nat.{_≤_};
 ghost use lib.ListN.{getD};
+ghost use Rattle.isa.specs.Listing.{last};
 ghost use Rattle.execution.specs.Codes.{classes, kinds};
 
 pub fn class(operation: usize) -> u8
-    requires { ⌜ operation < 40 ⌝ }
+    requires { ⌜ operation ≤ last ⌝ }
     ensures { λ r. ⌜ r ≡ getD classes operation 0 ⌝ }
 {
     match operation {
@@ -23,7 +24,7 @@ pub fn class(operation: usize) -> u8
 }
 
 pub fn kind(operation: usize) -> u8
-    requires { ⌜ operation < 40 ⌝ }
+    requires { ⌜ operation ≤ last ⌝ }
     ensures { λ r. ⌜ r ≡ getD kinds operation 0 ⌝ }
 {
     match operation {

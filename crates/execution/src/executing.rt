@@ -1,8 +1,9 @@
 ghost use mathlib.Core.Path.{_≡_};
-ghost use Prim.Native.Nat.{_<_};
+ghost use Prim.Native.Nat.{_≤_, _<_};
 ghost use Rattle.execution.specs.Actions.{Branch};
 ghost use Rattle.execution.specs.Codes.{actionAt, conditionAt};
 ghost use Rattle.execution.specs.Execute as Execute;
+ghost use Rattle.isa.specs.Listing.{last};
 ghost use Rattle.isa.specs.Reads.{choose};
 ghost use Rattle.execution.specs.Memory as Memory;
 use crate::Outcome;
@@ -100,7 +101,7 @@ pub fn perform(
 
 // Result, next address and stop of an instruction, from its address and the two values read.
 pub fn execute(length: usize, i: Instruction, address: u32, first: u32, second: u32) -> Outcome
-    requires { ⌜ i .operation < 40 ⌝ }
+    requires { ⌜ i .operation ≤ last ⌝ }
     ensures { λ r. ⌜ r ≡ Execute.executed length i address first second ⌝ }
 {
     let operation = i.operation as usize;

@@ -2,6 +2,7 @@ ghost use mathlib.Core.Path.{_≡_};
 ghost use Prim.Native.Nat.{_+_, _<_, _≤_};
 ghost use lib.ListN.{length};
 ghost use Rattle.word.specs.Bytes.{byteOf};
+ghost use Rattle.isa.specs.Listing.{last};
 ghost use Rattle.execution.specs.Actions.{LoadsSigned, LoadsUnsigned};
 ghost use Rattle.execution.specs.Codes.{actionAt, Sized};
 ghost use Rattle.execution.specs.Memory as Memory;
@@ -65,7 +66,7 @@ pub fn second_by(class: u8, size: u8, data: &[u8], address: u32, second: u32) ->
 
 // The second value that an instruction reads.
 pub fn second_value(i: Instruction, data: &[u8], first: u32, second: u32) -> u32
-    requires { ⌜ i .operation < 40 ⌝ }
+    requires { ⌜ i .operation ≤ last ⌝ }
     ensures { λ r. ⌜ r ≡ Memory.secondValue i first second (now («data» .entry)) ⌝ }
 {
     let operation = i.operation as usize;
@@ -90,7 +91,7 @@ pub fn store_by(class: u8, size: u8, data: &mut [u8], address: u32, second: u32)
 
 // The data after a store; other instructions leave them.
 pub fn store(i: Instruction, data: &mut [u8], first: u32, second: u32)
-    requires { ⌜ i .operation < 40 ⌝ }
+    requires { ⌜ i .operation ≤ last ⌝ }
     ensures { λ r. ⌜ now («data» .exit) ≡ Memory.stored i first second (now («data» .entry)) ⌝ }
 {
     let operation = i.operation as usize;
@@ -101,7 +102,7 @@ pub fn store(i: Instruction, data: &mut [u8], first: u32, second: u32)
 
 // whether a store's bytes stay within the length; other instructions have none
 pub fn store_ends_within(length: usize, i: Instruction, first: u32) -> bool
-    requires { ⌜ i .operation < 40 ⌝ }
+    requires { ⌜ i .operation ≤ last ⌝ }
     ensures { λ r. ⌜ r ≡ Memory.storeEndsWithin length i first ⌝ }
 {
     let operation = i.operation as usize;

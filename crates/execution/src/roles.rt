@@ -1,12 +1,13 @@
 // What the renaming core asks of an instruction.
 ghost use mathlib.Core.Path.{_≡_};
-ghost use Prim.Native.Nat.{_<_};
+ghost use Prim.Native.Nat.{_≤_};
+ghost use Rattle.isa.specs.Listing.{last};
 ghost use Rattle.execution.specs.Roles as Roles;
 use crate::actions;
 use isa::Instruction;
 
 pub fn is_load(i: Instruction) -> bool
-    requires { ⌜ i .operation < 40 ⌝ }
+    requires { ⌜ i .operation ≤ last ⌝ }
     ensures { λ r. ⌜ r ≡ Roles.loads i ⌝ }
 {
     let class = actions::class(i.operation as usize);
@@ -14,7 +15,7 @@ pub fn is_load(i: Instruction) -> bool
 }
 
 pub fn is_store(i: Instruction) -> bool
-    requires { ⌜ i .operation < 40 ⌝ }
+    requires { ⌜ i .operation ≤ last ⌝ }
     ensures { λ r. ⌜ r ≡ Roles.stores i ⌝ }
 {
     actions::class(i.operation as usize) == 10
@@ -22,7 +23,7 @@ pub fn is_store(i: Instruction) -> bool
 
 // the cause of ECALL and EBREAK, 0 for all that execute
 pub fn cause_at_once(i: Instruction) -> u8
-    requires { ⌜ i .operation < 40 ⌝ }
+    requires { ⌜ i .operation ≤ last ⌝ }
     ensures { λ r. ⌜ r ≡ Roles.causeAtOnce i ⌝ }
 {
     let operation = i.operation as usize;
@@ -34,7 +35,7 @@ pub fn cause_at_once(i: Instruction) -> u8
 
 // the guess for branches and JALR, the target for JAL, else the address after
 pub fn predicted_next(i: Instruction, address: u32, guess: u32) -> u32
-    requires { ⌜ i .operation < 40 ⌝ }
+    requires { ⌜ i .operation ≤ last ⌝ }
     ensures { λ r. ⌜ r ≡ Roles.predictedNext i address guess ⌝ }
 {
     let class = actions::class(i.operation as usize);

@@ -10,6 +10,7 @@ use Rattle.word.specs.Signed as Signed
 use Rattle.word.proofs.FieldLaws.{below}
 use Rattle.laws.proofs.Bools.{and-left, and-right, both}
 use Rattle.laws.proofs.Table.{at}
+use Rattle.isa.specs.Listing as Listing
 use Rattle.isa.specs.Listing.{Format, R, I, S, B, U, J, Shift, Whole, formatOf, fixedOf}
 use Rattle.isa.specs.Codes.{fixedBits, named}
 use Rattle.isa.specs.Encodes.{Limits, limitsOf, within, accepted, constantPart, wordOf, written, refused, encodedOf}
@@ -57,29 +58,29 @@ module _ (i : Instruction) where
   unfolding accepted
   too-low h = rw (lt-leb 1 (i .operation) h)
 
-  pub too-high : 1 ≤ i .operation → 39 < i .operation → false ≡ accepted i
+  pub too-high : 1 ≤ i .operation → Listing.last < i .operation → false ≡ accepted i
   unfolding accepted
-  too-high l h = rw (le-leb 1 (i .operation) l, lt-leb (i .operation) 39 h)
+  too-high l h = rw (le-leb 1 (i .operation) l, lt-leb (i .operation) Listing.last h)
 
-  pub by-format : 1 ≤ i .operation → i .operation ≤ 39 → within (limitsOf (formatOf (i .operation))) i ≡ accepted i
+  pub by-format : 1 ≤ i .operation → i .operation ≤ Listing.last → within (limitsOf (formatOf (i .operation))) i ≡ accepted i
   unfolding accepted
-  by-format l h = rw (le-leb 1 (i .operation) l, le-leb (i .operation) 39 h)
+  by-format l h = rw (le-leb 1 (i .operation) l, le-leb (i .operation) Listing.last h)
 
 pub record Accepted (i : Instruction) : Type 0 where
   pub first : 1 ≤ i .operation
-  pub last : i .operation ≤ 39
+  pub last : i .operation ≤ Listing.last
   pub fields : Within (limitsOf (formatOf (i .operation))) i
 
 pub accepted-says : (i : Instruction) → accepted i ≡ true → Accepted i
 unfolding accepted
 accepted-says i t =
     let a = leb 1 (i .operation) in
-    let b = leb (i .operation) 39 in
+    let b = leb (i .operation) Listing.last in
     let c = within (limitsOf (formatOf (i .operation))) i in
     let ab = and-left (a && b) c t in
     record {
       first = leb-true 1 (i .operation) (and-left a b ab);
-      last = leb-true (i .operation) 39 (and-right a b ab);
+      last = leb-true (i .operation) Listing.last (and-right a b ab);
       fields = within-says (limitsOf (formatOf (i .operation))) i (and-right (a && b) c t);
     }
 
@@ -122,12 +123,12 @@ pub not-named : (i : Instruction) → named (i .operation) (i .rd) (i .rs1) (i .
 not-named i e = not-named-at (accepted i) _ (λ t. named-of i (accepted-says i t)) e
 
 pub record Named (i : Instruction) : Type 0 where
-  pub operation : i .operation ≤ 39
+  pub operation : i .operation ≤ Listing.last
   pub registers : Registers i
 
 pub named-says : (i : Instruction) → named (i .operation) (i .rd) (i .rs1) (i .rs2) ≡ true → Named i
 named-says i t =
-    let a = leb (i .operation) 39 in
+    let a = leb (i .operation) Listing.last in
     let b = leb (i .rd) 31 in
     let c = leb (i .rs1) 31 in
     let d = leb (i .rs2) 31 in
@@ -161,8 +162,8 @@ most Whole = 2 ^ 32 - 1
 abbrev small : ℕ → ℕ → Bool
 small operation fixed = leb fixed (most (formatOf operation))
 
-fixed-most : (operation : ℕ) → operation < 40 → fixedOf operation ≤ most (formatOf operation)
-fixed-most operation h = rw (← fixed-at operation) (leb→le _ _ (at small fixedBits tt operation h))
+fixed-most : (operation : ℕ) → operation ≤ Listing.last → fixedOf operation ≤ most (formatOf operation)
+fixed-most operation h = rw (← fixed-at operation) (leb→le _ _ (at small fixedBits tt operation (omega arith)))
 
 -- an accepted instruction's word is a word
 fits-at : (F : Format) (i : Instruction) (fixed : ℕ) → fixed ≤ most F → Within (limitsOf F) i
@@ -180,5 +181,4 @@ fits-at Whole i fixed h t = omega arith
 pub word-fits : (i : Instruction) → Accepted i → wordOf i < 2 ^ 32
 unfolding wordOf
 word-fits i a =
-    let o : i .operation < 40 = omega (arith, a .last) in
-    fits-at (formatOf (i .operation)) i (fixedOf (i .operation)) (fixed-most (i .operation) o) (a .fields)
+    fits-at (formatOf (i .operation)) i (fixedOf (i .operation)) (fixed-most (i .operation) (a .last)) (a .fields)

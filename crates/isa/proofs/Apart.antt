@@ -9,7 +9,7 @@ use Rattle.word.specs.Field.{field}
 use Rattle.word.proofs.FieldLaws.{below}
 use Rattle.laws.proofs.Bools.{impossible, both, where-both}
 use Rattle.laws.proofs.Table.{every, at}
-use Rattle.isa.specs.Listing.{Format, R, I, S, B, U, J, Shift, Whole, formatOf, fixedOf}
+use Rattle.isa.specs.Listing.{Format, R, I, S, B, U, J, Shift, Whole, last, formatOf, fixedOf}
 use Rattle.isa.specs.Codes.{fixedBits}
 use Rattle.isa.specs.Reads.{choose, fixedPart, operationFrom}
 use Rattle.isa.proofs.FieldsBack.{fixed-clean}
@@ -91,11 +91,11 @@ abbrev all-differ : ℕ → ℕ → Bool
 all-differ a fixed = every (differ a) 0 fixedBits
 
 -- the computed test: no two operations' fixed bits agree
-differ-at : (a b : ℕ) → a < 40 → b < 40 → T (eqb a b || not (agree a b))
+differ-at : (a b : ℕ) → a ≤ last → b ≤ last → T (eqb a b || not (agree a b))
 unfolding field
-differ-at a b h g = at (differ a) fixedBits (at all-differ fixedBits tt a h) b g
+differ-at a b h g = at (differ a) fixedBits (at all-differ fixedBits tt a (omega arith)) b (omega arith)
 
-module _ (a b w : ℕ) (ha : a < 40) (hb : b < 40) (ma : fixedPart (formatOf a) w ≡ fixedOf a) (mb : fixedPart (formatOf b) w ≡ fixedOf b) where
+module _ (a b w : ℕ) (ha : a ≤ last) (hb : b ≤ last) (ma : fixedPart (formatOf a) w ≡ fixedOf a) (mb : fixedPart (formatOf b) w ≡ fixedOf b) where
   agrees : agree a b ≡ true
   agrees =
       let p = has (formatOf a) (fixedOf a) w (fixed-clean a ha) ma in
@@ -114,7 +114,7 @@ module _ (a b w : ℕ) (ha : a < 40) (hb : b < 40) (ma : fixedPart (formatOf a) 
   same-operation = eqb-true a b (one (eqb a b) (agree a b) agrees (differ-at a b ha hb))
 
 -- the search reaches it
-module _ (operation w : ℕ) (h : operation < 40) (m : fixedPart (formatOf operation) w ≡ fixedOf operation) where
+module _ (operation w : ℕ) (h : operation ≤ last) (m : fixedPart (formatOf operation) w ≡ fixedOf operation) where
   reach-at : (n first : ℕ) (b : Bool) → eqb (fixedPart (formatOf first) w) (fixedOf first) ≡ b → first ≤ operation → operation < first + suc n
       → (first + 1 ≤ operation → operation < first + 1 + n → operationFrom n (first + 1) w ≡ operation)
       → choose b first (operationFrom n (first + 1) w) ≡ operation

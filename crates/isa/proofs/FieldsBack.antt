@@ -13,7 +13,7 @@ use Rattle.word.specs.Signed.{extend}
 use Rattle.word.proofs.FieldLaws.{below, split, whole, lowest, two-parts}
 use Rattle.word.proofs.ExtendLaws.{Range, extend-back}
 use Rattle.laws.proofs.Table.{at}
-use Rattle.isa.specs.Listing.{Format, R, I, S, B, U, J, Shift, Whole, formatOf, fixedOf}
+use Rattle.isa.specs.Listing.{Format, R, I, S, B, U, J, Shift, Whole, last, formatOf, fixedOf}
 use Rattle.isa.specs.Codes.{fixedBits}
 use Rattle.isa.specs.Reads.{instruction, fixedPart, constantOf, fieldsOf}
 use Rattle.isa.specs.Encodes.{limitsOf, constantPart}
@@ -26,9 +26,9 @@ abbrev clean : ℕ → ℕ → Bool
 clean operation fixed = eqb (fixedPart (formatOf operation) fixed) fixed
 
 -- an operation's fixed bits leave its fields zero
-pub fixed-clean : (operation : ℕ) → operation < 40 → fixedPart (formatOf operation) (fixedOf operation) ≡ fixedOf operation
+pub fixed-clean : (operation : ℕ) → operation ≤ last → fixedPart (formatOf operation) (fixedOf operation) ≡ fixedOf operation
 unfolding fixedPart field
-fixed-clean operation h = rw (← fixed-at operation) (eqb→eq _ _ (at clean fixedBits tt operation h))
+fixed-clean operation h = rw (← fixed-at operation) (eqb→eq _ _ (at clean fixedBits tt operation (omega arith)))
 
 -- a word that is made of six parts has those parts
 record Made (w x0 x7 x12 x15 x20 x25 : ℕ) : Type 0 where

@@ -6,6 +6,7 @@ use native.Mathlib.Omega.{arith}
 use borrow.Author.Tests.{eqb-true}
 use lib.Dec.{eqb}
 use Rattle.word.proofs.FieldLaws.{below}
+use Rattle.isa.specs.Listing as Listing
 use Rattle.isa.specs.Listing.{Format, R, I, S, B, U, J, Shift, Whole, formatOf, fixedOf}
 use Rattle.isa.specs.Reads.{choose, Numbers, legal, illegal, numbersOf, fixedPart, operationFrom, operationOf, fieldsOf, readAs, readOf}
 use Rattle.isa.specs.declared.Instruction.{Instruction}
@@ -54,7 +55,7 @@ found (suc n) first w operation h p =
 pub record LegalWord (w : ℕ) (i : Instruction) : Type 0 where
   pub operation : ℕ
   pub first : 1 ≤ operation
-  pub last : operation ≤ 39
+  pub last : operation ≤ Listing.last
   pub bits : fixedPart (formatOf operation) w ≡ fixedOf operation
   pub is : i ≡ fieldsOf (formatOf operation) operation w
 
@@ -62,7 +63,7 @@ legal-at : (w operation : ℕ) (i : Instruction) → operationOf w ≡ operation
 unfolding operationOf
 legal-at w zero i e p = let z : _≡_ {A = ℕ} 1 0 = ap (λ (n : Numbers). n .cause) p in absurd (omega arith)
 legal-at w (suc n) i e p =
-    let f = found 39 1 w (suc n) (λ z. omega arith) e in
+    let f = found Listing.last 1 w (suc n) (λ z. omega arith) e in
     record { operation = suc n; first = omega arith; last = omega arith; bits = f .bits; is = sym (ap (λ (x : Numbers). x .fields) p) }
 
 pub legal-word : (w : ℕ) (i : Instruction) → readOf w ≡ legal i → LegalWord w i
@@ -83,12 +84,12 @@ operation-kept Whole operation w = refl
 -- an instruction that was read names an operation and registers
 pub record Small (i : Instruction) : Type 0 where
   pub first : 1 ≤ i .operation
-  pub operation : i .operation < 40
+  pub operation : i .operation ≤ Listing.last
   pub rd : i .rd < 32
   pub rs1 : i .rs1 < 32
   pub rs2 : i .rs2 < 32
 
-small-at : (F : Format) (operation w : ℕ) → 1 ≤ operation → operation < 40 → Small (fieldsOf F operation w)
+small-at : (F : Format) (operation w : ℕ) → 1 ≤ operation → operation ≤ Listing.last → Small (fieldsOf F operation w)
 unfolding fieldsOf
 small-at R operation w l h = record { first = l; operation = h; rd = below w 7 5; rs1 = below w 15 5; rs2 = below w 20 5 }
 small-at I operation w l h = record { first = l; operation = h; rd = below w 7 5; rs1 = below w 15 5; rs2 = omega arith }
@@ -102,4 +103,4 @@ small-at Whole operation w l h = record { first = l; operation = h; rd = omega a
 pub legal-small : (w : ℕ) (i : Instruction) → readOf w ≡ legal i → Small i
 legal-small w i p =
     let l = legal-word w i p in
-    rw (l .is) (small-at (formatOf (l .operation)) (l .operation) w (l .first) (omega (arith, l .last)))
+    rw (l .is) (small-at (formatOf (l .operation)) (l .operation) w (l .first) (l .last))

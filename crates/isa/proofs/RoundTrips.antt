@@ -4,7 +4,7 @@ use mathlib.Core.Path.{_≡_, refl, sym, ap, subst, _∙_}
 use mathlib.Core.Bool.{Bool, true, false}
 use mathlib.Core.Logic.{_⊎_, inl, inr}
 use native.Mathlib.Omega.{arith}
-use Rattle.isa.specs.Listing.{formatOf, fixedOf}
+use Rattle.isa.specs.Listing.{last, formatOf, fixedOf}
 use Rattle.isa.specs.Reads.{choose, legal, operationOf, readOf}
 use Rattle.isa.specs.Encodes.{accepted, wordOf, written, refused, encodedOf}
 use Rattle.isa.specs.Statement.{Statement}
@@ -23,9 +23,8 @@ unfolding wordOf operationOf
 word-read i a =
     let operation = i .operation in
     let F = formatOf operation in
-    let h : operation < 40 = omega (arith, a .last) in
-    let b = back F i (fixedOf operation) (wordOf i) (fixed-clean operation h) (a .fields) refl in
-    let o : operationOf (wordOf i) ≡ operation = reach operation (wordOf i) h (b .bits) 39 1 (a .first) (omega arith) in
+    let b = back F i (fixedOf operation) (wordOf i) (fixed-clean operation (a .last)) (a .fields) refl in
+    let o : operationOf (wordOf i) ≡ operation = reach operation (wordOf i) (a .last) (b .bits) last 1 (a .first) (omega arith) in
     read-some (wordOf i) operation o (λ z. omega (arith, a .first)) ∙ ap legal (b .is)
 
 word-back : (w : ℕ) (i : Instruction) → w < 2 ^ 32 → readOf w ≡ legal i → encodedOf i ≡ written w

@@ -4,6 +4,7 @@ use mathlib.Core.Path.{_≡_}
 use mathlib.Core.Logic.{_⊎_}
 use lib.IntN.{ℤ, pos, _+ℤ_}
 use lib.Signed.{_≤ℤ_}
+use Rattle.isa.specs.Listing as Listing
 use Rattle.isa.specs.Listing.{Format, R, I, S, B, U, J, Shift, Whole, formatOf}
 use Rattle.isa.specs.Reads.{readOf, legal}
 use Rattle.isa.specs.Encodes.{encodedOf, written, refused, minus}
@@ -44,7 +45,7 @@ Ranges Whole = Fields Lacks Lacks Lacks NoConstant
 
 pub record InRange (i : Instruction) : Type 0 where
   pub first : 1 ≤ i .operation
-  pub last : i .operation ≤ 39
+  pub last : i .operation ≤ Listing.last
   pub ranges : Ranges (formatOf (i .operation)) i
 
 pub record Statement : Type 0 where

@@ -26,7 +26,7 @@ pub fn accepts(i: Instruction) -> bool
 fn fit(operation: u32, rd: u32, rs1: u32, rs2: u32) -> bool
     ensures { λ r. ⌜ r ≡ named operation rd rs1 rs2 ⌝ }
 {
-    (operation <= 39) & (rd <= 31) & (rs1 <= 31) & (rs2 <= 31)
+    (operation <= listing::LAST as u32) & (rd <= 31) & (rs1 <= 31) & (rs2 <= 31)
 }
 
 // The word of these fields, or refusal 30.

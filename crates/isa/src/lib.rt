@@ -9,6 +9,7 @@ pub mod reader;
 
 pub use encoder::accepts;
 pub use encoder::encode;
+pub use listing::LAST;
 pub use reader::read;
 
 // Operation numbers are 1 to 39 in the order of the manual's listing; a field that the operation lacks is 0.

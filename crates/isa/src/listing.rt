@@ -1,14 +1,15 @@
 // The manual's listing by operation number, as two numbers: the format's code (0 whole word, 1 R, 2 I, 3 S, 4 B, 5 U,
 // 6 J, 7 shift) and the fixed bits. Both are matches, since a const table is built anew at each use.
 ghost use mathlib.Core.Path.{_≡_};
-ghost use Prim.Native.Nat.{_<_};
+ghost use Prim.Native.Nat.{_≤_};
 ghost use lib.ListN.{getD};
 ghost use Rattle.isa.specs.Codes.{codes, fixedBits};
+ghost use Rattle.isa.specs.Listing.{last};
 
 pub const LAST: u8 = 39;
 
 pub fn format(operation: usize) -> u8
-    requires { ⌜ operation < 40 ⌝ }
+    requires { ⌜ operation ≤ last ⌝ }
     ensures { λ r. ⌜ r ≡ getD codes operation 0 ⌝ }
 {
     match operation {
@@ -56,7 +57,7 @@ pub fn format(operation: usize) -> u8
 }
 
 pub fn fixed(operation: usize) -> u32
-    requires { ⌜ operation < 40 ⌝ }
+    requires { ⌜ operation ≤ last ⌝ }
     ensures { λ r. ⌜ r ≡ getD fixedBits operation 0 ⌝ }
 {
     match operation {

@@ -3,6 +3,7 @@ ghost use mathlib.Core.Path.{_≡_};
 ghost use mathlib.Core.Bool.{true};
 ghost use Prim.Native.Nat.{_≤_, _<_};
 ghost use lib.ListN.{length};
+ghost use Rattle.isa.specs.Listing.{last};
 ghost use Rattle.core.specs.Range.{machineInRange};
 ghost use Rattle.issuing.specs.Issue as Issue;
 use core::Answer;
@@ -58,7 +59,7 @@ fn issue_refusal(core: Core, position: usize) -> u8
 
 // the entry with the values that it reads. Inner: this crate and replay's loop call it.
 pub fn read(values: &[u32; 96], data: &[u8], e: Entry) -> Entry
-    requires { ⌜ (e .instruction .operation < 40) × (length (now values) ≡ 96) ⌝ }
+    requires { ⌜ (e .instruction .operation ≤ last) × (length (now values) ≡ 96) ⌝ }
     ensures { λ r. ⌜ r ≡ Issue.readEntry (now (values .entry)) (now («data» .entry)) e ⌝ }
 {
     let i = e.instruction;

@@ -45,7 +45,7 @@ fn cause_in_range(e: Entry) -> bool
 fn ends_within(bytes: u16, i: Instruction, first: u32) -> bool
     ensures { λ r. ⌜ r ≡ storeEndsWithin bytes i first ⌝ }
 {
-    if i.operation < 40 {
+    if i.operation <= isa::LAST {
         execution::memory::store_ends_within(bytes as usize, i, first)
     } else {
         true

@@ -1,6 +1,7 @@
 ghost use mathlib.Core.Path.{_≡_};
-ghost use Prim.Native.Nat.{_<_};
+ghost use Prim.Native.Nat.{_≤_, _<_};
 ghost use lib.ListN.{length};
+ghost use Rattle.isa.specs.Listing.{last};
 ghost use Rattle.reference.specs.Step as Step;
 use crate::Advance;
 use crate::Fetching;
@@ -17,7 +18,7 @@ use isa::Instruction;
 
 // one instruction on lent registers and data; a stop leaves them. The action is looked up once and handed on.
 fn make(i: Instruction, data: &mut [u8], registers: &mut [u32; 32], address: u32) -> Advance
-    requires { ⌜ (i .operation < 40) × (i .rs1 < 32) × (i .rs2 < 32) × (i .rd < 32) × (length (now registers) ≡ 32) ⌝ }
+    requires { ⌜ (i .operation ≤ last) × (i .rs1 < 32) × (i .rs2 < 32) × (i .rd < 32) × (length (now registers) ≡ 32) ⌝ }
     ensures { λ r. ⌜ Step.stepWith i (Step.state (now (registers .entry)) address (now («data» .entry))) ≡ Step.reached (now (registers .exit)) (r .address) (now («data» .exit)) (r .stop) ⌝ }
 {
     let operation = i.operation as usize;

@@ -3,6 +3,7 @@ ghost use mathlib.Core.Path.{_≡_};
 ghost use mathlib.Core.Bool.{_||_};
 ghost use Prim.Native.Nat.{_<_, _≤_};
 ghost use lib.Dec.{eqb};
+ghost use Rattle.isa.specs.Listing.{last};
 ghost use Rattle.turns.specs.Ways as Ways;
 use crate::Ending;
 use crate::Way;
@@ -34,7 +35,7 @@ pub fn place(r: Record) -> usize
 }
 
 fn issue_way(e: Entry) -> Way
-    requires { ⌜ e .instruction .operation < 40 ⌝ }
+    requires { ⌜ e .instruction .operation ≤ last ⌝ }
     ensures { λ w. ⌜ w ≡ Ways.issueWay e ⌝ }
 {
     if !entries::is_waiting(e) {
@@ -65,7 +66,7 @@ fn commit_way(e: Entry) -> Way
 
 // the way of an event; 15 and 16 are found on the way
 pub fn way_of(r: Record, halt: Stop, s: Setup, count: usize, e: Entry) -> Way
-    requires { ⌜ (r .position < count → e .instruction .operation < 40) ⌝ }
+    requires { ⌜ (r .position < count → e .instruction .operation ≤ last) ⌝ }
     ensures { λ w. ⌜ w ≡ Ways.wayOf r halt s count e ⌝ }
 {
     let kind = r.kind;

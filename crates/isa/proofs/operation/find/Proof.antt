@@ -3,7 +3,7 @@ use mathlib.Core.Path.{_≡_, refl, sym, ap, _∙_}
 use native.Mathlib.Omega.{arith}
 use borrow.Author.Needs.{needs}
 use borrow.Author.Tests.{eq-eqb, ne-eqb}
-use Rattle.isa.specs.Listing.{Format, formatOf, fixedOf}
+use Rattle.isa.specs.Listing.{Format, last, formatOf, fixedOf}
 use Rattle.isa.specs.Codes.{formatAt}
 use Rattle.isa.specs.Reads.{fixedPart, operationFrom, operationOf}
 use Rattle.isa.proofs.FormatLaws.{format-at, fixed-at}
@@ -11,26 +11,26 @@ use Rattle.isa.proofs.operation.find.Statement.{statement}
 use Rattle.isa.proofs.operation.find.Tie as tie
 
 abbrev Inv-loop : tie.InvT-loop
-Inv-loop word operation₀ operation = (1 ≤ operation) × (operation ≤ 40) × (operationOf word ≡ operationFrom (40 - operation) operation word)
+Inv-loop word operation₀ operation = (1 ≤ operation) × (operation ≤ suc last) × (operationOf word ≡ operationFrom (suc last - operation) operation word)
 
 abbrev μ-loop : tie.MeasureT-loop
-μ-loop word operation₀ operation = 40 - operation
+μ-loop word operation₀ operation = suc last - operation
 
 -- one turn of the search
 module _ (w operation : ℕ) where
-  hit : operation < 40 → fixedPart (formatOf operation) w ≡ fixedOf operation → operationFrom (40 - operation) operation w ≡ operation
+  hit : operation ≤ last → fixedPart (formatOf operation) w ≡ fixedOf operation → operationFrom (suc last - operation) operation w ≡ operation
   unfolding operationFrom
-  hit h e = let n : 40 - operation ≡ suc (39 - operation) = omega arith in rw (n, eq-eqb _ _ e)
+  hit h e = let n : suc last - operation ≡ suc (last - operation) = omega arith in rw (n, eq-eqb _ _ e)
 
-  miss : operation < 40 → (fixedPart (formatOf operation) w ≡ fixedOf operation → ⊥) → operationFrom (40 - operation) operation w ≡ operationFrom (40 - (operation + 1)) (operation + 1) w
+  miss : operation ≤ last → (fixedPart (formatOf operation) w ≡ fixedOf operation → ⊥) → operationFrom (suc last - operation) operation w ≡ operationFrom (suc last - (operation + 1)) (operation + 1) w
   unfolding operationFrom
   miss h e =
-      let n : 40 - operation ≡ suc (39 - operation) = omega arith in
-      let m : 40 - (operation + 1) ≡ 39 - operation = omega arith in rw (n, ne-eqb _ _ e, m)
+      let n : suc last - operation ≡ suc (last - operation) = omega arith in
+      let m : suc last - (operation + 1) ≡ last - operation = omega arith in rw (n, ne-eqb _ _ e, m)
 
-  past : 40 ≤ operation → operationFrom (40 - operation) operation w ≡ 0
+  past : last < operation → operationFrom (suc last - operation) operation w ≡ 0
   unfolding operationFrom
-  past h = let n : 40 - operation ≡ 0 = omega arith in rw n
+  past h = let n : suc last - operation ≡ 0 = omega arith in rw n
 
 -- what the test compares
 module _ (c : tie.After-fixed Inv-loop μ-loop) where
@@ -65,7 +65,7 @@ fixed-requires c κs =
 
 returns : tie.Need-returns Inv-loop μ-loop
 returns c =
-    let h : c .before .before .before .before .before .loop .operation < 40 = omega arith in
+    let h : c .before .before .before .before .before .loop .operation ≤ last = omega arith in
     (sym (c .before .before .before .before .before .loop .inv .2 ∙ hit (c .before .before .before .before .before .before .args .word) (c .before .before .before .before .before .loop .operation) h (sym (part (c .before)) ∙ c .if1 .taken ∙ bits (c .before))), omega arith)
 
 add-operation : tie.Need-add-operation Inv-loop μ-loop
@@ -78,7 +78,7 @@ loop-less c =
 
 loop-again : tie.Need-loop-again Inv-loop μ-loop
 loop-again c =
-    let h : c .before .before .before .before .before .loop .operation < 40 = omega arith in
+    let h : c .before .before .before .before .before .loop .operation ≤ last = omega arith in
     (search needs, search needs, c .before .before .before .before .before .loop .inv .2 ∙ miss (c .before .before .before .before .before .before .args .word) (c .before .before .before .before .before .loop .operation) h (λ e. c .if1 .left (part (c .before) ∙ e ∙ sym (bits (c .before)))))
 
 returns-2 : tie.Need-returns-2 Inv-loop μ-loop
