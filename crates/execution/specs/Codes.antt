@@ -80,7 +80,11 @@ classes = map class actions
 abbrev pub kinds : List ℕ
 kinds = map kind actions
 
+-- loads and stores have the last classes, signed loads the first of them
+abbrev pub signedLoads : ℕ
+signedLoads = class (LoadsSigned 0)
+
 -- the sizes of loads and stores: 1 to 4 bytes, of a signed load fewer than 4
 pub record Sized (class kind : ℕ) : Type 0 where
-  pub some : 7 < class → (0 < kind) × (kind ≤ 4)
-  pub signed : class ≡ 8 → kind < 4
+  pub some : signedLoads ≤ class → (0 < kind) × (kind ≤ 4)
+  pub signed : class ≡ signedLoads → kind < 4

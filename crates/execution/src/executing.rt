@@ -1,7 +1,7 @@
 ghost use mathlib.Core.Path.{_≡_};
 ghost use Prim.Native.Nat.{_≤_, _<_};
 ghost use Rattle.execution.specs.Actions.{Branch};
-ghost use Rattle.execution.specs.Codes.{actionAt, conditionAt};
+ghost use Rattle.execution.specs.Codes.{actionAt, conditionAt, signedLoads};
 ghost use Rattle.execution.specs.Execute as Execute;
 ghost use Rattle.isa.specs.Listing.{last};
 ghost use Rattle.isa.specs.Reads.{choose};
@@ -81,20 +81,20 @@ pub fn perform(
     first: u32,
     second: u32,
 ) -> Outcome
-    requires { ⌜ (7 < class → 0 < kind) ⌝ }
+    requires { ⌜ (signedLoads ≤ class → 0 < kind) ⌝ }
     ensures { λ r. ⌜ r ≡ Execute.executedBy (actionAt class kind) length address c first second ⌝ }
 {
     match class {
-        1 => goes(word::shift_left(c, 12), onward(address)),
-        2 => goes(word::add(address, word::shift_left(c, 12)), onward(address)),
-        3 => jumps(address, onward(address), word::add(address, c)),
-        4 => jumps(address, onward(address), word::add(first, c) / 2 * 2),
-        5 => branches(kind, address, c, first, second),
-        6 => goes(alu::compute(kind, first, c), onward(address)),
-        7 => goes(alu::compute(kind, first, second), onward(address)),
-        8 => accesses(length, kind, 6, address, word::add(first, c), second),
-        9 => accesses(length, kind, 6, address, word::add(first, c), second),
-        10 => accesses(length, kind, 7, address, word::add(first, c), 0),
+        actions::LUI => goes(word::shift_left(c, 12), onward(address)),
+        actions::AUIPC => goes(word::add(address, word::shift_left(c, 12)), onward(address)),
+        actions::JAL => jumps(address, onward(address), word::add(address, c)),
+        actions::JALR => jumps(address, onward(address), word::add(first, c) / 2 * 2),
+        actions::BRANCH => branches(kind, address, c, first, second),
+        actions::IMMEDIATE => goes(alu::compute(kind, first, c), onward(address)),
+        actions::REGISTER => goes(alu::compute(kind, first, second), onward(address)),
+        actions::LOAD_SIGNED => accesses(length, kind, 6, address, word::add(first, c), second),
+        actions::LOAD_UNSIGNED => accesses(length, kind, 6, address, word::add(first, c), second),
+        actions::STORE => accesses(length, kind, 7, address, word::add(first, c), 0),
         _ => stops(address, kind),
     }
 }

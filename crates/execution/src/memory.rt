@@ -55,10 +55,10 @@ pub fn second_by(class: u8, size: u8, data: &[u8], address: u32, second: u32) ->
     requires { ⌜ Sized class size ⌝ }
     ensures { λ r. ⌜ r ≡ Memory.secondBy (actionAt class size) (length (now («data» .entry))) address second (byteOf (now («data» .entry))) ⌝ }
 {
-    if class == 8 {
+    if class == actions::LOAD_SIGNED {
         return load_signed(data, address, size);
     }
-    if class == 9 {
+    if class == actions::LOAD_UNSIGNED {
         return load_unsigned(data, address, size);
     }
     second
@@ -80,7 +80,7 @@ pub fn store_by(class: u8, size: u8, data: &mut [u8], address: u32, second: u32)
     requires { ⌜ Sized class size ⌝ }
     ensures { λ r. ⌜ now («data» .exit) ≡ Memory.storedBy (actionAt class size) address second (now («data» .entry)) ⌝ }
 {
-    if class == 10 {
+    if class == actions::STORE {
         let at = address as usize;
         let bytes = size as usize;
         if at + bytes <= data.len() {
@@ -106,7 +106,7 @@ pub fn store_ends_within(length: usize, i: Instruction, first: u32) -> bool
     ensures { λ r. ⌜ r ≡ Memory.storeEndsWithin length i first ⌝ }
 {
     let operation = i.operation as usize;
-    if actions::class(operation) == 10 {
+    if actions::class(operation) == actions::STORE {
         let size = actions::kind(operation);
         let address = effective(i, first);
         return address as usize + size as usize <= length;

@@ -11,14 +11,14 @@ pub fn is_load(i: Instruction) -> bool
     ensures { λ r. ⌜ r ≡ Roles.loads i ⌝ }
 {
     let class = actions::class(i.operation as usize);
-    (class == 8) | (class == 9)
+    (class == actions::LOAD_SIGNED) | (class == actions::LOAD_UNSIGNED)
 }
 
 pub fn is_store(i: Instruction) -> bool
     requires { ⌜ i .operation ≤ last ⌝ }
     ensures { λ r. ⌜ r ≡ Roles.stores i ⌝ }
 {
-    actions::class(i.operation as usize) == 10
+    actions::class(i.operation as usize) == actions::STORE
 }
 
 // the cause of ECALL and EBREAK, 0 for all that execute
@@ -27,7 +27,7 @@ pub fn cause_at_once(i: Instruction) -> u8
     ensures { λ r. ⌜ r ≡ Roles.causeAtOnce i ⌝ }
 {
     let operation = i.operation as usize;
-    if actions::class(operation) == 0 {
+    if actions::class(operation) == actions::STOP {
         return actions::kind(operation);
     }
     0
@@ -40,10 +40,10 @@ pub fn predicted_next(i: Instruction, address: u32, guess: u32) -> u32
 {
     let class = actions::class(i.operation as usize);
     let constant = word::to_word(i.constant);
-    if class == 3 {
+    if class == actions::JAL {
         return word::add(address, constant);
     }
-    if (class == 4) | (class == 5) {
+    if (class == actions::JALR) | (class == actions::BRANCH) {
         return guess;
     }
     word::add(address, 4)

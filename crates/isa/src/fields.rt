@@ -5,6 +5,7 @@ ghost use Rattle.isa.specs.Codes.{formatAt};
 ghost use Rattle.isa.specs.Listing.{I, S, B, U, J, Shift};
 ghost use Rattle.isa.specs.Reads.{constantOf, fieldsOf};
 use crate::Instruction;
+use crate::listing;
 
 // the register number from bit low on
 fn register(word: u32, low: u32) -> u8
@@ -69,12 +70,12 @@ fn constant(format: u8, word: u32) -> i32
     ensures { λ r. ⌜ r ≡ constantOf (formatAt format) word ⌝ }
 {
     match format {
-        2 => constant_i(word),
-        3 => constant_s(word),
-        4 => constant_b(word),
-        5 => constant_u(word),
-        6 => constant_j(word),
-        7 => shift_amount(word),
+        listing::I => constant_i(word),
+        listing::S => constant_s(word),
+        listing::B => constant_b(word),
+        listing::U => constant_u(word),
+        listing::J => constant_j(word),
+        listing::SHIFT => shift_amount(word),
         _ => 0,
     }
 }
@@ -91,30 +92,30 @@ pub fn fields(format: u8, operation: u8, word: u32) -> Instruction
         constant: constant(format, word),
     };
     match format {
-        1 => {
+        listing::R => {
             i.rd = register(word, 7);
             i.rs1 = register(word, 15);
             i.rs2 = register(word, 20);
         }
-        2 => {
+        listing::I => {
             i.rd = register(word, 7);
             i.rs1 = register(word, 15);
         }
-        3 => {
-            i.rs1 = register(word, 15);
-            i.rs2 = register(word, 20);
-        }
-        4 => {
+        listing::S => {
             i.rs1 = register(word, 15);
             i.rs2 = register(word, 20);
         }
-        5 => {
+        listing::B => {
+            i.rs1 = register(word, 15);
+            i.rs2 = register(word, 20);
+        }
+        listing::U => {
             i.rd = register(word, 7);
         }
-        6 => {
+        listing::J => {
             i.rd = register(word, 7);
         }
-        7 => {
+        listing::SHIFT => {
             i.rd = register(word, 7);
             i.rs1 = register(word, 15);
         }

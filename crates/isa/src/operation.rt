@@ -33,13 +33,13 @@ fn fixed_part(format: u8, word: u32) -> u32
     ensures { λ r. ⌜ r ≡ fixedPart (formatAt format) word ⌝ }
 {
     match format {
-        1 => long_part(word),
-        2 => short_part(word),
-        3 => short_part(word),
-        4 => short_part(word),
-        5 => opcode(word),
-        6 => opcode(word),
-        7 => long_part(word),
+        listing::R => long_part(word),
+        listing::I => short_part(word),
+        listing::S => short_part(word),
+        listing::B => short_part(word),
+        listing::U => opcode(word),
+        listing::J => opcode(word),
+        listing::SHIFT => long_part(word),
         _ => word,
     }
 }

@@ -36,12 +36,12 @@ fn constant_part(format: u8, c: u32) -> u32
     ensures { λ r. ⌜ r ≡ constantPart (formatAt format) c ⌝ }
 {
     match format {
-        2 => word::field(c, 0, 12) * 0x10_0000,
-        3 => place_s(c),
-        4 => place_b(c),
-        5 => word::field(c, 0, 20) * 0x1000,
-        6 => place_j(c),
-        7 => word::field(c, 0, 5) * 0x10_0000,
+        listing::I => word::field(c, 0, 12) * 0x10_0000,
+        listing::S => place_s(c),
+        listing::B => place_b(c),
+        listing::U => word::field(c, 0, 20) * 0x1000,
+        listing::J => place_j(c),
+        listing::SHIFT => word::field(c, 0, 5) * 0x10_0000,
         _ => 0,
     }
 }
