@@ -11,9 +11,9 @@ use Rattle.ranges.specs.Sizes.{setUpRefusal}
 use Rattle.core.specs.Report.{reportOf}
 use Rattle.core.specs.declared.Answer.{Answer}
 use Rattle.core.specs.declared.Report.{Report}
-use Rattle.formats.specs.Schedule.{windowIn, registersIn, scheduleFits}
+use Rattle.formats.specs.Schedule.{longest, windowIn, registersIn, scheduleFits}
 use Rattle.formats.specs.Chain.{eventsOf}
-use Rattle.formats.specs.Result.{rateOf, resultBytes}
+use Rattle.formats.specs.Result.{resultLength, rateOf, resultBytes}
 use Rattle.formats.proofs.Laws.{statement as chain-laws}
 use Rattle.formats.proofs.HeadLaws.{at-least, at-most}
 use Rattle.events.specs.Counts.{Played}
@@ -31,9 +31,9 @@ set-core : (window registers program bytes : ℕ) (a : Answer) → a ≡ setUpOf
 unfolding setUpOf
 set-core window registers program bytes a e z = ap (λ (x : Answer). x .core) e ∙ rw (eq-eqb (setUpRefusal window registers program bytes) 0 z)
 
-module _ (program memory schedule : List ℕ) (none : replayRefusal program memory schedule 156 ≡ 0) where
-  abbrev facts : Unrefused program memory schedule 156
-  facts = unrefused program memory schedule 156 none
+module _ (program memory schedule : List ℕ) (none : replayRefusal program memory schedule resultLength ≡ 0) where
+  abbrev facts : Unrefused program memory schedule resultLength
+  facts = unrefused program memory schedule resultLength none
 
   fits : scheduleFits (length schedule) ≡ true
   fits = head-fits schedule (facts .head)
@@ -55,22 +55,22 @@ module _ (program memory schedule : List ℕ) (none : replayRefusal program memo
       let fewer = chain-laws .events-fewer schedule (omega arith) (facts .chain) in
       omega arith
 
-  pub accepted-few : playedOf program memory schedule .counts .accepted ≤ 65_536
+  pub accepted-few : playedOf program memory schedule .counts .accepted ≤ longest
   unfolding playedOf
   accepted-few =
       let sum = event-laws .counted program (eventsOf schedule) (playedFrom program memory schedule .world) in
       let few = events-few in
       omega arith
 
-  pub committed-few : playedOf program memory schedule .counts .committed ≤ 65_536
+  pub committed-few : playedOf program memory schedule .counts .committed ≤ longest
   unfolding playedOf
   committed-few =
       let less = event-laws .committed program (eventsOf schedule) (playedFrom program memory schedule .world) in
       let most = accepted-few in
       omega arith
 
-  pub counts-few : (e : Ended) (bytes : List ℕ) → playedBy e bytes ≡ playedOf program memory schedule → (e .counts .committed ≤ 65_536) × (e .counts .accepted ≤ 65_536)
-  counts-few e bytes q = subst (λ (x : Played). (x .counts .committed ≤ 65_536) × (x .counts .accepted ≤ 65_536)) (sym q) (committed-few, accepted-few)
+  pub counts-few : (e : Ended) (bytes : List ℕ) → playedBy e bytes ≡ playedOf program memory schedule → (e .counts .committed ≤ longest) × (e .counts .accepted ≤ longest)
+  counts-few e bytes q = subst (λ (x : Played). (x .counts .committed ≤ longest) × (x .counts .accepted ≤ longest)) (sym q) (committed-few, accepted-few)
 
 -- the figures, put together from their parts
 pub figures-are : (p : Played) (e : Ended) (memory : List ℕ) (rate : ℕ) (report : Report) → playedBy e memory ≡ p → rate ≡ rateOf (e .counts .committed) (e .counts .accepted) → report ≡ reportOf (e .core)

@@ -13,11 +13,12 @@ use Rattle.formats.specs.Chain.{eventsOf}
 use Rattle.events.specs.Play.{playedFrom, playedOf}
 use Rattle.events.specs.Statement.{callsOf}
 use Rattle.events.proofs.Laws.{statement as event-laws}
+use Rattle.formats.specs.Result.{resultLength}
 use Rattle.bench.specs.Replay.{replayRefusal}
 use Rattle.bench.specs.Statement.{Statement}
 use Rattle.bench.proofs.RefusalLaws.{unrefused}
 
-agrees : (program memory schedule : List ℕ) → replayRefusal program memory schedule 156 ≡ 0
+agrees : (program memory schedule : List ℕ) → replayRefusal program memory schedule resultLength ≡ 0
     → let commits : ℕ = acceptedCommits program (callsOf (eventsOf schedule)) (playedFrom program memory schedule .world) in
     Agrees program (playedOf program memory schedule .world) commits (runOf commits program (origin memory))
 unfolding playedOf
@@ -25,11 +26,11 @@ agrees program memory schedule none =
     let begun : World = playedFrom program memory schedule .world in
     let calls = callsOf (eventsOf schedule) in
     let commits : ℕ = acceptedCommits program calls begun in
-    let accepted = unrefused program memory schedule 156 none .set-up in
+    let accepted = unrefused program memory schedule resultLength none .set-up in
     subst (λ (w : World). Agrees program w commits (runOf commits program (origin memory))) (sym (event-laws .world program (eventsOf schedule) begun))
     (demand (windowIn schedule) (registersIn schedule) program memory accepted calls)
 
-committed : (program memory schedule : List ℕ) → replayRefusal program memory schedule 156 ≡ 0
+committed : (program memory schedule : List ℕ) → replayRefusal program memory schedule resultLength ≡ 0
     → let commits : ℕ = acceptedCommits program (callsOf (eventsOf schedule)) (playedFrom program memory schedule .world) in
     playedOf program memory schedule .counts .committed ≡ runOf commits program (origin memory) .steps
 unfolding playedOf

@@ -10,17 +10,18 @@ use lib.ListN.{length}
 use Rattle.isa.specs.Reads.{choose}
 use Rattle.reference.specs.Step.{when, first, lengthRefusal}
 use Rattle.ranges.specs.Sizes.{setUpRefusal}
-use Rattle.formats.specs.Schedule.{scheduleFits, malformed, windowIn, registersIn, headRefusal}
+use Rattle.formats.specs.Schedule.{recordLength, scheduleFits, malformed, windowIn, registersIn, headRefusal}
 use Rattle.formats.specs.Chain.{scheduleRefusal}
 use Rattle.formats.proofs.HeadLaws.{at-least}
 use Rattle.core.proofs.RefusalLaws.{passed, both-none}
+use Rattle.formats.specs.Result.{resultLength}
 use Rattle.bench.specs.Replay.{replayRefusal}
 
 pub head-fits : (schedule : List ℕ) → headRefusal schedule ≡ 0 → scheduleFits (length schedule) ≡ true
 unfolding headRefusal
 head-fits schedule e = not-false _ (passed (not (scheduleFits (length schedule))) 20 (when (malformed schedule) 21 ∷ []) refl e .0)
 
-pub head-long : (schedule : List ℕ) → headRefusal schedule ≡ 0 → 8 ≤ length schedule
+pub head-long : (schedule : List ℕ) → headRefusal schedule ≡ 0 → recordLength ≤ length schedule
 head-long schedule e = at-least (length schedule) (head-fits schedule e)
 
 alone : (n : ℕ) (b : Bool) → eqb n 0 ≡ b → n ≡ choose b 0 n
@@ -35,21 +36,21 @@ module _ (program memory schedule : List ℕ) (size : ℕ) where
   unfolding replayRefusal first
   lengths-stop n e z = rw (← e, ne-eqb n 0 z)
 
-  pub size-stop : lengthRefusal program memory ≡ 0 → size ≢ 156 → 26 ≡ replayRefusal program memory schedule size
+  pub size-stop : lengthRefusal program memory ≡ 0 → size ≢ resultLength → 26 ≡ replayRefusal program memory schedule size
   unfolding replayRefusal first
-  size-stop l q = rw (l, ne-eqb size 156 q)
+  size-stop l q = rw (l, ne-eqb size resultLength q)
 
-  pub head-stop : (n : ℕ) → lengthRefusal program memory ≡ 0 → size ≡ 156 → n ≡ headRefusal schedule → n ≢ 0 → n ≡ replayRefusal program memory schedule size
+  pub head-stop : (n : ℕ) → lengthRefusal program memory ≡ 0 → size ≡ resultLength → n ≡ headRefusal schedule → n ≢ 0 → n ≡ replayRefusal program memory schedule size
   unfolding replayRefusal first
-  head-stop n l q e z = rw (l, eq-eqb size 156 q, ← e, ne-eqb n 0 z)
+  head-stop n l q e z = rw (l, eq-eqb size resultLength q, ← e, ne-eqb n 0 z)
 
-  pub set-stop : (n : ℕ) → lengthRefusal program memory ≡ 0 → size ≡ 156 → headRefusal schedule ≡ 0 → n ≡ set → n ≢ 0 → n ≡ replayRefusal program memory schedule size
+  pub set-stop : (n : ℕ) → lengthRefusal program memory ≡ 0 → size ≡ resultLength → headRefusal schedule ≡ 0 → n ≡ set → n ≢ 0 → n ≡ replayRefusal program memory schedule size
   unfolding replayRefusal first
-  set-stop n l q h e z = rw (l, eq-eqb size 156 q, h, ← e, ne-eqb n 0 z)
+  set-stop n l q h e z = rw (l, eq-eqb size resultLength q, h, ← e, ne-eqb n 0 z)
 
-  pub chain-last : (n : ℕ) → lengthRefusal program memory ≡ 0 → size ≡ 156 → headRefusal schedule ≡ 0 → set ≡ 0 → n ≡ scheduleRefusal schedule → n ≡ replayRefusal program memory schedule size
+  pub chain-last : (n : ℕ) → lengthRefusal program memory ≡ 0 → size ≡ resultLength → headRefusal schedule ≡ 0 → set ≡ 0 → n ≡ scheduleRefusal schedule → n ≡ replayRefusal program memory schedule size
   unfolding replayRefusal first
-  chain-last n l q h s e = rw (l, eq-eqb size 156 q, h, s, ← e) (alone n (eqb n 0) refl)
+  chain-last n l q h s e = rw (l, eq-eqb size resultLength q, h, s, ← e) (alone n (eqb n 0) refl)
 
   -- what holds where none applies
   pub record Unrefused : Type 0 where
@@ -64,15 +65,15 @@ module _ (program memory schedule : List ℕ) (size : ℕ) where
       let chain = scheduleRefusal schedule ∷ [] in
       let after-head = set ∷ chain in
       let after-size = headRefusal schedule ∷ after-head in
-      let one = both-none (lengthRefusal program memory) (when (not (eqb size 156)) 26 ∷ after-size) e in
-      let two = both-none (when (not (eqb size 156)) 26) after-size (one .1) in
+      let one = both-none (lengthRefusal program memory) (when (not (eqb size resultLength)) 26 ∷ after-size) e in
+      let two = both-none (when (not (eqb size resultLength)) 26) after-size (one .1) in
       let three = both-none (headRefusal schedule) after-head (two .1) in
       let four = both-none set chain (three .1) in
       record { lengths = one .0; head = three .0; set-up = four .0; chain = both-none (scheduleRefusal schedule) [] (four .1) .0 }
 
-  pub size-right : replayRefusal program memory schedule size ≡ 0 → size ≡ 156
+  pub size-right : replayRefusal program memory schedule size ≡ 0 → size ≡ resultLength
   unfolding replayRefusal
   size-right e =
       let rest = headRefusal schedule ∷ set ∷ scheduleRefusal schedule ∷ [] in
-      let one = both-none (lengthRefusal program memory) (when (not (eqb size 156)) 26 ∷ rest) e in
-      eqb-true size 156 (not-false _ (passed (not (eqb size 156)) 26 rest refl (one .1) .0))
+      let one = both-none (lengthRefusal program memory) (when (not (eqb size resultLength)) 26 ∷ rest) e in
+      eqb-true size resultLength (not-false _ (passed (not (eqb size resultLength)) 26 rest refl (one .1) .0))

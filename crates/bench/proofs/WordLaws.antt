@@ -5,6 +5,7 @@ use mathlib.Core.List.{List, [], _∷_}
 use native.Mathlib.Omega.{arith}
 use lib.ListN.{length, getD, drop, length-drop, List·getD-append}
 use lib.Seq.{getD-append-add, getD-drop}
+use Rattle.formats.specs.Result.{resultWords}
 use Rattle.bench.specs.Replay.{wordsOf}
 use Rattle.bench.specs.declared.Replayed.{Replayed}
 
@@ -12,7 +13,7 @@ use Rattle.bench.specs.declared.Replayed.{Replayed}
 abbrev pub leading : Replayed → List ℕ
 leading r = r .counts .accepted ∷ r .counts .refused ∷ r .counts .committed ∷ r .counts .steals ∷ r .counts .dropped ∷ r .rate ∷ r .halt ∷ r .next ∷ []
 
-pub words-long : (r : Replayed) → length (r .registers) ≡ 32 → length (wordsOf r) ≡ 39
+pub words-long : (r : Replayed) → length (r .registers) ≡ 32 → length (wordsOf r) ≡ resultWords
 words-long r e = ap (λ (n : ℕ). suc (suc (suc (suc (suc (suc (suc (suc n)))))))) (length-drop 1 (r .registers) ∙ ap (λ (n : ℕ). n - 1) e)
 
 pub word-register : (r : Replayed) (k : ℕ) → 8 ≤ k → getD (r .registers) (k - 7) 0 ≡ getD (wordsOf r) k 0

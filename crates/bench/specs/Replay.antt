@@ -10,7 +10,7 @@ use Rattle.ranges.specs.Sizes.{setUpRefusal}
 use Rattle.core.specs.Report.{reportOf}
 use Rattle.formats.specs.Schedule.{windowIn, registersIn, headRefusal}
 use Rattle.formats.specs.Chain.{scheduleRefusal}
-use Rattle.formats.specs.Result.{rateOf, resultBytes}
+use Rattle.formats.specs.Result.{resultLength, rateOf, resultBytes}
 use Rattle.events.specs.Counts.{Played, noCounts}
 use Rattle.events.specs.Play.{playedOf}
 use Rattle.bench.specs.declared.Replayed.{Replayed}
@@ -20,7 +20,7 @@ unfoldable pub replayRefusal : List ℕ → List ℕ → List ℕ → ℕ → �
 replayRefusal program memory schedule size =
     first
     (lengthRefusal program memory
-    ∷ when (not (eqb size 156)) 26
+    ∷ when (not (eqb size resultLength)) 26
     ∷ headRefusal schedule
     ∷ setUpRefusal (windowIn schedule) (registersIn schedule) (length program) (length memory)
     ∷ scheduleRefusal schedule

@@ -1,6 +1,7 @@
 ghost use mathlib.Core.Path.{_≡_};
 ghost use Prim.Native.Nat.{_<_};
 ghost use lib.ListN.{getD};
+ghost use Rattle.formats.specs.Result.{resultWords, resultLength};
 ghost use Rattle.events.specs.Play.{playedOf};
 ghost use Rattle.bench.specs.Replay as Replay;
 use crate::Replayed;
@@ -16,7 +17,7 @@ fn refusal(program: &[u8], data: &[u8], schedule: &[u8], size: usize) -> u8
     if lengths != 0 {
         return lengths;
     }
-    if size != 156 {
+    if size != formats::RESULT_LENGTH {
         return 26;
     }
     let head = formats::head_refusal(schedule);
@@ -34,7 +35,7 @@ fn refusal(program: &[u8], data: &[u8], schedule: &[u8], size: usize) -> u8
 
 // all events, and what they come to
 fn figures(program: &[u8], data: &mut [u8], schedule: &[u8]) -> Replayed
-    requires { ⌜ Replay.replayRefusal (now program) (now «data») (now schedule) 156 ≡ 0 ⌝ }
+    requires { ⌜ Replay.replayRefusal (now program) (now «data») (now schedule) resultLength ≡ 0 ⌝ }
     ensures { λ r. ⌜ (r ≡ Replay.figuresOf (playedOf (now (program .entry)) (now («data» .entry)) (now (schedule .entry)))) × (now («data» .exit) ≡ playedOf (now (program .entry)) (now («data» .entry)) (now (schedule .entry)) .world .memory) ⌝ }
 {
     let window = formats::window_in(schedule) as u32;
@@ -59,7 +60,7 @@ fn figures(program: &[u8], data: &mut [u8], schedule: &[u8]) -> Replayed
 
 // word k of the result
 fn word_at(r: Replayed, k: usize) -> u32
-    requires { ⌜ k < 39 ⌝ }
+    requires { ⌜ k < resultWords ⌝ }
     ensures { λ w. ⌜ w ≡ getD (Replay.wordsOf r) k 0 ⌝ }
 {
     let counts = r.counts;
@@ -79,13 +80,13 @@ fn word_at(r: Replayed, k: usize) -> u32
     r.registers[k - 7]
 }
 
-// the 39 words of the result
-fn words(r: Replayed) -> [u32; 39]
+// the words of the result
+fn words(r: Replayed) -> [u32; formats::RESULT_WORDS]
     ensures { λ w. ⌜ w ≡ Replay.wordsOf r ⌝ }
 {
-    let mut words = [0u32; 39];
+    let mut words = [0u32; formats::RESULT_WORDS];
     let mut k: usize = 0;
-    while k < 39 {
+    while k < formats::RESULT_WORDS {
         words[k] = word_at(r, k);
         k += 1;
     }
@@ -111,8 +112,8 @@ fn nothing(number: u8) -> Replayed
     }
 }
 
-// Makes the events of a schedule on a fresh machine, writes the data as its stores do, and the 39 words to the result of
-// 156 bytes; at a refusal nothing lent changes.
+// Makes the events of a schedule on a fresh machine, writes the data as its stores do, and the words to the result; at a
+// refusal nothing lent changes.
 pub fn replay(program: &[u8], data: &mut [u8], schedule: &[u8], result: &mut [u8]) -> Replayed
     ensures { λ r. ⌜ Replay.replayOf (now (program .entry)) (now («data» .entry)) (now (schedule .entry)) (now (result .entry)) ≡ record { answer = r; memory = now («data» .exit); result = now (result .exit) } ⌝ }
 {

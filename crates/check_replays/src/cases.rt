@@ -35,10 +35,10 @@ fn part(fd: i32, n: u32, buffer: &mut [u8]) -> bool {
 // Whether the file has the result that the case expects. The four bytes after it stand for those that no call may reach.
 fn result_part(fd: i32, want: &mut [u8; 160]) -> bool {
     let whole = io::read_full(fd, want) == 160;
-    want[156] = PATTERN;
-    want[157] = PATTERN;
-    want[158] = PATTERN;
-    want[159] = PATTERN;
+    want[formats::RESULT_LENGTH] = PATTERN;
+    want[formats::RESULT_LENGTH + 1] = PATTERN;
+    want[formats::RESULT_LENGTH + 2] = PATTERN;
+    want[formats::RESULT_LENGTH + 3] = PATTERN;
     whole
 }
 
@@ -85,7 +85,7 @@ fn consistent(found: Replayed, result: &[u8]) -> bool {
     if found.number == 0 {
         return shows(found, result);
     }
-    let nothing = [0u8; 156];
+    let nothing = [0u8; formats::RESULT_LENGTH];
     shows(found, &nothing)
 }
 

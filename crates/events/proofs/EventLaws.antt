@@ -3,6 +3,7 @@ use Prim.Native.Nat.{ℕ}
 use mathlib.Core.Path.{_≡_, sym, ap, _∙_}
 use mathlib.Core.List.{List}
 use borrow.Author.Tests.{eq-eqb, ne-eqb}
+use Rattle.formats.specs.Chain.{decodeKind, issueKind, completeKind}
 use Rattle.formats.specs.declared.Record.{Record}
 use Rattle.core.specs.Call.{lentRefusal}
 use Rattle.core.specs.declared.Core.{Core}
@@ -24,19 +25,19 @@ use Rattle.events.specs.Numbers.{adding}
 
 -- the call of a record, by its kind
 module _ (r : Record) where
-  pub by-decode : r .kind ≡ 1 → callBy r ≡ decode (r .guess)
-  by-decode e = rw (eq-eqb (r .kind) 1 e)
+  pub by-decode : r .kind ≡ decodeKind → callBy r ≡ decode (r .guess)
+  by-decode e = rw (eq-eqb (r .kind) decodeKind e)
 
-  module _ (not1 : r .kind ≡ 1 → ⊥) where
-    pub by-issue : r .kind ≡ 2 → callBy r ≡ issue (r .position)
-    by-issue e = rw (ne-eqb (r .kind) 1 not1, eq-eqb (r .kind) 2 e)
+  module _ (not1 : r .kind ≡ decodeKind → ⊥) where
+    pub by-issue : r .kind ≡ issueKind → callBy r ≡ issue (r .position)
+    by-issue e = rw (ne-eqb (r .kind) decodeKind not1, eq-eqb (r .kind) issueKind e)
 
-    module _ (not2 : r .kind ≡ 2 → ⊥) where
-      pub by-complete : r .kind ≡ 3 → callBy r ≡ complete (r .position)
-      by-complete e = rw (ne-eqb (r .kind) 1 not1, ne-eqb (r .kind) 2 not2, eq-eqb (r .kind) 3 e)
+    module _ (not2 : r .kind ≡ issueKind → ⊥) where
+      pub by-complete : r .kind ≡ completeKind → callBy r ≡ complete (r .position)
+      by-complete e = rw (ne-eqb (r .kind) decodeKind not1, ne-eqb (r .kind) issueKind not2, eq-eqb (r .kind) completeKind e)
 
-      pub by-commit : (r .kind ≡ 3 → ⊥) → callBy r ≡ commit
-      by-commit not3 = rw (ne-eqb (r .kind) 1 not1, ne-eqb (r .kind) 2 not2, ne-eqb (r .kind) 3 not3)
+      pub by-commit : (r .kind ≡ completeKind → ⊥) → callBy r ≡ commit
+      by-commit not3 = rw (ne-eqb (r .kind) decodeKind not1, ne-eqb (r .kind) issueKind not2, ne-eqb (r .kind) completeKind not3)
 
 -- the calls, where 5 and 6 do not apply
 module _ (program memory : List ℕ) (m : Core) (lent : lentRefusal m program memory ≡ 0) where

@@ -4,6 +4,7 @@ use mathlib.Core.Bool.{_&&_}
 use mathlib.Core.List.{List, [], _∷_}
 use lib.Dec.{eqb}
 use Rattle.isa.specs.Reads.{choose}
+use Rattle.formats.specs.Chain.{decodeKind, issueKind, completeKind}
 use Rattle.formats.specs.declared.Record.{Record}
 use Rattle.core.specs.declared.Core.{Core}
 use Rattle.completing.specs.Complete.{needsRegister, noneFree}
@@ -14,7 +15,7 @@ use Rattle.events.specs.declared.Counts.{Counts}
 
 -- "Kinds: 1 decode, 2 issue, 3 complete, 4 commit."
 abbrev pub callBy : Record → Call
-callBy r = choose (eqb (r .kind) 1) (decode (r .guess)) (choose (eqb (r .kind) 2) (issue (r .position)) (choose (eqb (r .kind) 3) (complete (r .position)) commit))
+callBy r = choose (eqb (r .kind) decodeKind) (decode (r .guess)) (choose (eqb (r .kind) issueKind) (issue (r .position)) (choose (eqb (r .kind) completeKind) (complete (r .position)) commit))
 
 -- "Committed counts commits without a halt"
 abbrev pub commits : Call → Core → ℕ

@@ -10,16 +10,16 @@ use lib.ListN.{length}
 use Rattle.laws.proofs.Bools.{and-left, and-right}
 use Rattle.word.specs.Bytes.{number, byteOf}
 use Rattle.reference.specs.Step.{first}
-use Rattle.formats.specs.Schedule.{scheduleFits, headRefusal}
+use Rattle.formats.specs.Schedule.{recordLength, longest, scheduleFits, headRefusal}
 
-pub at-most : (n : ℕ) → scheduleFits n ≡ true → n ≤ 65_536
-at-most n e = leb-true n 65_536 (and-right (leb 1 n) (leb n 65_536) (and-left (leb 1 n && leb n 65_536) (eqb (n % 8) 0) e))
+pub at-most : (n : ℕ) → scheduleFits n ≡ true → n ≤ longest
+at-most n e = leb-true n longest (and-right (leb 1 n) (leb n longest) (and-left (leb 1 n && leb n longest) (eqb (n % recordLength) 0) e))
 
 -- record 0 is there
-pub at-least : (n : ℕ) → scheduleFits n ≡ true → 8 ≤ n
+pub at-least : (n : ℕ) → scheduleFits n ≡ true → recordLength ≤ n
 at-least n e =
-    let some = leb-true 1 n (and-left (leb 1 n) (leb n 65_536) (and-left (leb 1 n && leb n 65_536) (eqb (n % 8) 0) e)) in
-    let whole = eqb-true (n % 8) 0 (and-right (leb 1 n && leb n 65_536) (eqb (n % 8) 0) e) in
+    let some = leb-true 1 n (and-left (leb 1 n) (leb n longest) (and-left (leb 1 n && leb n longest) (eqb (n % recordLength) 0) e)) in
+    let whole = eqb-true (n % recordLength) 0 (and-right (leb 1 n && leb n longest) (eqb (n % recordLength) 0) e) in
     omega arith
 
 module _ (schedule : List ℕ) where

@@ -9,13 +9,26 @@ use Rattle.formats.specs.Schedule.{recordAt, records, firstIndex}
 use Rattle.formats.specs.declared.Record.{Record}
 
 -- "Kinds: 1 decode, 2 issue, 3 complete, 4 commit."
+abbrev pub decodeKind : ℕ
+decodeKind = 1
+
+abbrev pub issueKind : ℕ
+issueKind = 2
+
+abbrev pub completeKind : ℕ
+completeKind = 3
+
+abbrev pub commitKind : ℕ
+commitKind = 4
+
 abbrev pub unknownKind : Record → Bool
-unknownKind r = not (leb 1 (r .kind) && leb (r .kind) 4)
+unknownKind r = not (leb decodeKind (r .kind) && leb (r .kind) commitKind)
 
 -- "Position is zero in 1 and 4, guess is zero in 2, 3 and 4."
 abbrev pub unwanted : Record → Bool
 unwanted r =
-    ((eqb (r .kind) 1 || eqb (r .kind) 4) && not (eqb (r .position) 0)) || ((eqb (r .kind) 2 || eqb (r .kind) 3 || eqb (r .kind) 4) && not (eqb (r .guess) 0))
+    ((eqb (r .kind) decodeKind || eqb (r .kind) commitKind) && not (eqb (r .position) 0))
+    || ((eqb (r .kind) issueKind || eqb (r .kind) completeKind || eqb (r .kind) commitKind) && not (eqb (r .guess) 0))
 
 -- 24 and 25, for a record itself
 unfoldable pub recordRefusal : Record → ℕ

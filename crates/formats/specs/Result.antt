@@ -4,6 +4,12 @@ use mathlib.Core.List.{List, [], _∷_, _++_}
 use lib.Dec.{eqb}
 use Rattle.isa.specs.Reads.{choose}
 
+abbrev pub resultWords : ℕ
+resultWords = 39
+
+abbrev pub resultLength : ℕ
+resultLength = 4 * resultWords
+
 abbrev pub wordBytes : ℕ → List ℕ
 wordBytes w = w % 256 ∷ w / 256 % 256 ∷ w / 65_536 % 256 ∷ w / 16_777_216 % 256 ∷ []
 

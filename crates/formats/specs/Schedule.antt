@@ -8,21 +8,27 @@ use Rattle.word.specs.Bytes.{number, byteOf}
 use Rattle.reference.specs.Step.{when, first}
 use Rattle.formats.specs.declared.Record.{Record}
 
+abbrev pub recordLength : ℕ
+recordLength = 8
+
 unfoldable pub recordAt : List ℕ → ℕ → Record
 recordAt schedule index =
     record {
-      kind = number (byteOf schedule) (8 * index) 1;
-      position = number (byteOf schedule) (8 * index + 1) 1;
-      next = number (byteOf schedule) (8 * index + 2) 2;
-      guess = number (byteOf schedule) (8 * index + 4) 4;
+      kind = number (byteOf schedule) (recordLength * index) 1;
+      position = number (byteOf schedule) (recordLength * index + 1) 1;
+      next = number (byteOf schedule) (recordLength * index + 2) 2;
+      guess = number (byteOf schedule) (recordLength * index + 4) 4;
     }
 
 abbrev pub records : List ℕ → ℕ
-records schedule = length schedule / 8
+records schedule = length schedule / recordLength
+
+abbrev pub longest : ℕ
+longest = 65_536
 
 -- refusal 20: "length 0, above 65,536 or no multiple of 8"
 abbrev pub scheduleFits : ℕ → Bool
-scheduleFits length = leb 1 length && leb length 65_536 && eqb (length % 8) 0
+scheduleFits bytes = leb 1 bytes && leb bytes longest && eqb (bytes % recordLength) 0
 
 -- "Record 0: kind 0, W, first index, then N in one byte and three zeros; kind or zeros wrong is 21."
 abbrev pub windowIn : List ℕ → ℕ

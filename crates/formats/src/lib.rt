@@ -3,9 +3,16 @@ pub mod chain;
 pub mod result;
 pub mod schedule;
 
+pub use chain::COMMIT;
+pub use chain::COMPLETE;
+pub use chain::DECODE;
+pub use chain::ISSUE;
 pub use chain::chain_refusal;
+pub use result::RESULT_LENGTH;
+pub use result::RESULT_WORDS;
 pub use result::lay;
 pub use result::rate;
+pub use schedule::RECORD_LENGTH;
 pub use schedule::first_index;
 pub use schedule::head_refusal;
 pub use schedule::record_at;

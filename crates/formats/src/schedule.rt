@@ -4,12 +4,16 @@ ghost use lib.ListN.{length};
 ghost use Rattle.formats.specs.Schedule as Schedule;
 use crate::Record;
 
+pub const RECORD_LENGTH: usize = 8;
+
+pub const LONGEST: usize = 65_536;
+
 // the record at an index; replay calls it once an event
 pub fn record_at(schedule: &[u8], index: usize) -> Record
-    requires { ⌜ 8 * index + 8 ≤ length (now schedule) ⌝ }
+    requires { ⌜ Schedule.recordLength * index + Schedule.recordLength ≤ length (now schedule) ⌝ }
     ensures { λ r. ⌜ r ≡ Schedule.recordAt (now (schedule .entry)) index ⌝ }
 {
-    let at = 8 * index;
+    let at = RECORD_LENGTH * index;
     Record {
         kind: word::load(schedule, at, 1) as u8,
         position: word::load(schedule, at + 1, 1) as u8,
@@ -22,8 +26,8 @@ pub fn record_at(schedule: &[u8], index: usize) -> Record
 pub fn head_refusal(schedule: &[u8]) -> u8
     ensures { λ r. ⌜ r ≡ Schedule.headRefusal (now (schedule .entry)) ⌝ }
 {
-    let length = schedule.len();
-    let fits = (1 <= length) & (length <= 65_536) & (length % 8 == 0);
+    let bytes = schedule.len();
+    let fits = (1 <= bytes) & (bytes <= LONGEST) & (bytes % RECORD_LENGTH == 0);
     if !fits {
         return 20;
     }
@@ -38,7 +42,7 @@ pub fn head_refusal(schedule: &[u8]) -> u8
 
 // W, out of record 0
 pub fn window_in(schedule: &[u8]) -> u8
-    requires { ⌜ 8 ≤ length (now schedule) ⌝ }
+    requires { ⌜ Schedule.recordLength ≤ length (now schedule) ⌝ }
     ensures { λ r. ⌜ r ≡ Schedule.windowIn (now (schedule .entry)) ⌝ }
 {
     word::load(schedule, 1, 1) as u8
@@ -46,7 +50,7 @@ pub fn window_in(schedule: &[u8]) -> u8
 
 // N, out of record 0
 pub fn registers_in(schedule: &[u8]) -> u8
-    requires { ⌜ 8 ≤ length (now schedule) ⌝ }
+    requires { ⌜ Schedule.recordLength ≤ length (now schedule) ⌝ }
     ensures { λ r. ⌜ r ≡ Schedule.registersIn (now (schedule .entry)) ⌝ }
 {
     word::load(schedule, 4, 1) as u8
@@ -54,7 +58,7 @@ pub fn registers_in(schedule: &[u8]) -> u8
 
 // where the chain starts, 0 where there is none
 pub fn first_index(schedule: &[u8]) -> u16
-    requires { ⌜ 8 ≤ length (now schedule) ⌝ }
+    requires { ⌜ Schedule.recordLength ≤ length (now schedule) ⌝ }
     ensures { λ r. ⌜ r ≡ Schedule.firstIndex (now (schedule .entry)) ⌝ }
 {
     word::load(schedule, 2, 2) as u16

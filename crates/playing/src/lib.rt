@@ -48,7 +48,7 @@ pub fn play(core: Core, program: &[u8], data: &mut [u8], schedule: &[u8]) -> Pla
         dropped: 0,
     };
     let mut index = formats::first_index(schedule) as usize;
-    let mut left = schedule.len() / 8;
+    let mut left = schedule.len() / formats::RECORD_LENGTH;
     'turns: loop {
         // the drop of one entry
         if kept < count {

@@ -20,7 +20,7 @@ fn print(found: Replayed) {
 }
 
 fn replay(program: &[u8], data: &mut [u8], schedule: &[u8]) {
-    let mut result = [0u8; 156];
+    let mut result = [0u8; formats::RESULT_LENGTH];
     let found = bench::replay(program, data, schedule, &mut result);
     if found.number != 0 {
         lines::decimal(b"refused by ", found.number);

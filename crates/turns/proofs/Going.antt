@@ -9,7 +9,7 @@ use lib.Dec.{leb, eqb}
 use lib.ListN.{length}
 use Rattle.isa.specs.Reads.{choose}
 use Rattle.reference.specs.Step.{when, first}
-use Rattle.formats.specs.Schedule.{recordAt, records, firstIndex}
+use Rattle.formats.specs.Schedule.{longest, recordAt, records, firstIndex}
 use Rattle.formats.specs.Chain.{recordRefusal, isMet, chainRefusal, eventsFrom}
 use Rattle.formats.specs.declared.Record.{Record}
 use Rattle.formats.proofs.Events.{events-none, events-ended, events-on}
@@ -159,7 +159,7 @@ module _ {program memory schedule : List ℕ} {left index : ℕ} {m : Core} {byt
   roomy = omega (arith, few, kept .entries)
 
   -- no count is too big
-  pub small-enough : length schedule ≤ 65_536 → Small 100_000_000 counts
+  pub small-enough : length schedule ≤ longest → Small 100_000_000 counts
   small-enough l =
       let s = g .small in
       let k : (records schedule - left) * 64 ≤ 524_288 = omega arith in

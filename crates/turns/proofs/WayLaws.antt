@@ -12,6 +12,7 @@ use Rattle.execution.specs.declared.Outcome.{Outcome}
 use Rattle.tables.specs.Operand.{isReady}
 use Rattle.tables.specs.Entry.{isWaiting, isIssued, isCompleted}
 use Rattle.tables.specs.declared.Entry.{Entry}
+use Rattle.formats.specs.Chain.{decodeKind, issueKind, completeKind}
 use Rattle.formats.specs.declared.Record.{Record}
 use Rattle.core.specs.Call.{halted, noEntry}
 use Rattle.core.specs.Changes.{entryAt}
@@ -48,7 +49,7 @@ refused-halted (complete position) m h = Completing.refused-halted position m h
 refused-halted commit m h = Committing.refused-halted m h
 
 -- a commit looks at the oldest entry
-place-oldest : (r : Record) → eqb (r .kind) 2 ≡ false → eqb (r .kind) 3 ≡ false → placeOf r ≡ 0
+place-oldest : (r : Record) → eqb (r .kind) issueKind ≡ false → eqb (r .kind) completeKind ≡ false → placeOf r ≡ 0
 place-oldest r not2 not3 = rw (not2, not3) (at (leb 64 (r .position)))
   where
     at : (b : Bool) → _≡_ {A = ℕ} (choose b 0 0) 0
@@ -113,7 +114,7 @@ module _ (r : Record) (m : Core) (n : ℕ) where
   refuses q number some is = record { some = λ z. some (is ∙ sym (ap (λ (x : Call). refusalBy x m) q) ∙ z) }
 
   module _ (at : n ≡ placeOf r) (few : m .count ≤ 64) (runs : halted m ≡ false) where
-    decodes : r .kind ≡ 1 → Says (choose (leb (m .setup .window) (m .count)) Refused Decode)
+    decodes : r .kind ≡ decodeKind → Says (choose (leb (m .setup .window) (m .count)) Refused Decode)
     unfolding decodeRefusal first
     decodes kind =
         by-test Says (leb (m .setup .window) (m .count)) Refused Decode
@@ -121,13 +122,13 @@ module _ (r : Record) (m : Core) (n : ℕ) where
         (λ room. record { call = by-decode r kind; accepted = rw (runs, room); room = leb-false (m .setup .window) (m .count) room })
 
     -- a position that is an entry's is the place looked at
-    place-issued : r .kind ≡ 2 → r .position < m .count → n ≡ r .position
-    place-issued kind there = at ∙ rw (lt-leb 64 (r .position) (omega arith), eq-eqb (r .kind) 2 kind)
+    place-issued : r .kind ≡ issueKind → r .position < m .count → n ≡ r .position
+    place-issued kind there = at ∙ rw (lt-leb 64 (r .position) (omega arith), eq-eqb (r .kind) issueKind kind)
 
-    place-completed : r .kind ≡ 3 → r .position < m .count → n ≡ r .position
+    place-completed : r .kind ≡ completeKind → r .position < m .count → n ≡ r .position
     place-completed kind there = at ∙ rw (lt-leb 64 (r .position) (omega arith), kind)
 
-    module _ (kind : r .kind ≡ 2) where
+    module _ (kind : r .kind ≡ issueKind) where
       call-issue : callBy r ≡ issue (r .position)
       call-issue = by-issue r (λ z. let two = kind in omega arith) kind
 
@@ -143,7 +144,7 @@ module _ (r : Record) (m : Core) (n : ℕ) where
           (λ unready. refuses call 14 (eqb-false 14 0 refl) (Issuing.refused-operand n m runs there waits unready)))
           (λ other. refuses call 13 (eqb-false 13 0 refl) (Issuing.refused-state n m runs there other))
 
-    module _ (kind : r .kind ≡ 3) where
+    module _ (kind : r .kind ≡ completeKind) where
       call-complete : callBy r ≡ complete (r .position)
       call-complete = by-complete r (λ z. let three = kind in omega arith) (λ z. let three = kind in omega arith) kind
 
@@ -173,21 +174,21 @@ module _ (r : Record) (m : Core) (n : ℕ) where
       by-test Says (eqb (m .halt .cause) 0) _ Refused
       (λ going.
       let runs : halted m ≡ false = ap not going in
-      by-test Says (eqb (r .kind) 1) _ _ (λ one. decodes at few runs (eqb-true (r .kind) 1 one))
-      (λ not1. by-test Says (eqb (r .kind) 2) _ _
+      by-test Says (eqb (r .kind) decodeKind) _ _ (λ one. decodes at few runs (eqb-true (r .kind) decodeKind one))
+      (λ not1. by-test Says (eqb (r .kind) issueKind) _ _
       (λ two.
-      let kind = eqb-true (r .kind) 2 two in
+      let kind = eqb-true (r .kind) issueKind two in
       by-test Says (leb (m .count) (r .position)) Refused _
       (λ beyond. refuses (call-issue at few runs kind) 12 (eqb-false 12 0 refl) (Issuing.refused-place (r .position) m runs beyond))
       (λ there. let same = place-issued at few runs kind (leb-false (m .count) (r .position) there) in issues at few runs kind same (at-entry at few runs there same)))
-      (λ not2. by-test Says (eqb (r .kind) 3) _ _
+      (λ not2. by-test Says (eqb (r .kind) completeKind) _ _
       (λ three.
-      let kind = eqb-true (r .kind) 3 three in
+      let kind = eqb-true (r .kind) completeKind three in
       by-test Says (leb (m .count) (r .position)) Refused _
       (λ beyond. refuses (call-complete at few runs kind) 12 (eqb-false 12 0 refl) (Completing.refused-place (r .position) m runs beyond))
       (λ there. let same = place-completed at few runs kind (leb-false (m .count) (r .position) there) in completes at few runs kind same (at-entry at few runs there same)))
       (λ not3.
-      let call = by-commit r (eqb-false (r .kind) 1 not1) (eqb-false (r .kind) 2 not2) (eqb-false (r .kind) 3 not3) in
+      let call = by-commit r (eqb-false (r .kind) decodeKind not1) (eqb-false (r .kind) issueKind not2) (eqb-false (r .kind) completeKind not3) in
       by-test Says (eqb (m .count) 0) Refused _
       (λ none. refuses call 12 (eqb-false 12 0 refl) (Committing.refused-place m runs (le-leb (m .count) 0 (let z = eqb-true (m .count) 0 none in omega arith))))
       (λ some. commits at few runs call (at ∙ place-oldest r not2 not3) (lt-leb (m .count) 0 (let z = eqb-false (m .count) 0 some in omega arith)) (eqb-true (m .halt .cause) 0 going))))))

@@ -12,6 +12,7 @@ use Rattle.tables.specs.declared.Operand.{Operand}
 use Rattle.tables.specs.declared.Operand.the-variants.{Zero, Waiting, Ready}
 use Rattle.tables.specs.Entry.{isWaiting, isIssued, isCompleted}
 use Rattle.tables.specs.declared.Entry.{Entry}
+use Rattle.formats.specs.Chain.{decodeKind, issueKind, completeKind}
 use Rattle.formats.specs.declared.Record.{Record}
 use Rattle.turns.specs.declared.Way.{Way}
 use Rattle.turns.specs.declared.Way.the-variants.{Refused, Decode, Issue, Load, Complete, Commit, Halt}
@@ -20,7 +21,7 @@ use Rattle.turns.specs.declared.Ending.the-variants.{Stops, WithoutDesti
 
 -- the place that an event looks at, always within the entries
 abbrev pub placeOf : Record → ℕ
-placeOf r = choose (leb 64 (r .position)) 0 (choose (eqb (r .kind) 2) (r .position) (choose (eqb (r .kind) 3) (r .position) 0))
+placeOf r = choose (leb 64 (r .position)) 0 (choose (eqb (r .kind) issueKind) (r .position) (choose (eqb (r .kind) completeKind) (r .position) 0))
 
 abbrev pub issueWay : Entry → Way
 issueWay e = choose (isWaiting (e .state)) (choose (isReady (e .left) && isReady (e .right)) (choose (loads (e .instruction)) Load Issue) Refused) Refused
@@ -32,9 +33,9 @@ commitWay e = choose (isCompleted (e .state)) (choose (eqb (e .stop .cause) 0) C
 unfoldable pub wayOf : Record → Stop → Setup → ℕ → Entry → Way
 wayOf r halt s count e =
     choose (eqb (halt .cause) 0)
-    (choose (eqb (r .kind) 1) (choose (leb (s .window) count) Refused Decode)
-    (choose (eqb (r .kind) 2) (choose (leb count (r .position)) Refused (issueWay e))
-    (choose (eqb (r .kind) 3) (choose (leb count (r .position)) Refused (choose (isIssued (e .state)) Complete Refused))
+    (choose (eqb (r .kind) decodeKind) (choose (leb (s .window) count) Refused Decode)
+    (choose (eqb (r .kind) issueKind) (choose (leb count (r .position)) Refused (issueWay e))
+    (choose (eqb (r .kind) completeKind) (choose (leb count (r .position)) Refused (choose (isIssued (e .state)) Complete Refused))
     (choose (eqb count 0) Refused (commitWay e)))))
     Refused
 

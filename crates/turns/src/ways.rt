@@ -25,10 +25,10 @@ pub fn place(r: Record) -> usize
     if 64 <= position {
         return 0;
     }
-    if kind == 2 {
+    if kind == formats::ISSUE {
         return position;
     }
-    if kind == 3 {
+    if kind == formats::COMPLETE {
         return position;
     }
     0
@@ -74,19 +74,19 @@ pub fn way_of(r: Record, halt: Stop, s: Setup, count: usize, e: Entry) -> Way
     if halt.cause != 0 {
         return Way::Refused;
     }
-    if kind == 1 {
+    if kind == formats::DECODE {
         if s.window as usize <= count {
             return Way::Refused;
         }
         return Way::Decode;
     }
-    if kind == 2 {
+    if kind == formats::ISSUE {
         if count <= position {
             return Way::Refused;
         }
         return issue_way(e);
     }
-    if kind == 3 {
+    if kind == formats::COMPLETE {
         if count <= position {
             return Way::Refused;
         }

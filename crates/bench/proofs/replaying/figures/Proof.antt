@@ -1,5 +1,6 @@
 use denote.Ref.{now}
 use Rattle.events.specs.Play.{playedOf}
+use Rattle.formats.specs.Result.{resultLength}
 use Rattle.bench.proofs.RefusalLaws.{unrefused, head-long}
 use Rattle.bench.proofs.FigureLaws.{ready, counts-few, figures-are}
 use borrow.Author.Needs.{needs}
@@ -9,7 +10,7 @@ use Rattle.bench.proofs.replaying.figures.Tie as tie
 window-in-requires : tie.Need-window-in-requires
 window-in-requires c κs =
     let a = c .before .before .before .args in
-    head-long (now (a .schedule)) (unrefused (now (a .program)) (now (a .«data»)) (now (a .schedule)) 156 (c .before .before .before .pre) .head)
+    head-long (now (a .schedule)) (unrefused (now (a .program)) (now (a .«data»)) (now (a .schedule)) resultLength (c .before .before .before .pre) .head)
 
 cast-window : tie.Need-cast-window
 cast-window c = search needs
@@ -17,7 +18,7 @@ cast-window c = search needs
 registers-in-requires : tie.Need-registers-in-requires
 registers-in-requires c κs =
     let a = c .before .before .before .before .args in
-    head-long (now (a .schedule)) (unrefused (now (a .program)) (now (a .«data»)) (now (a .schedule)) 156 (c .before .before .before .before .pre) .head)
+    head-long (now (a .schedule)) (unrefused (now (a .program)) (now (a .«data»)) (now (a .schedule)) resultLength (c .before .before .before .before .pre) .head)
 
 cast-registers : tie.Need-cast-registers
 cast-registers c = search needs

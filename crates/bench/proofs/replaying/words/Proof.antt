@@ -5,16 +5,17 @@ use borrow.Author.Needs.{needs}
 use lib.ListN.{length, getD, length-set}
 use lib.Seq.{ext-getD}
 use Rattle.core.proofs.TabulateLaws.{filled-more}
+use Rattle.formats.specs.Result.{resultWords}
 use Rattle.bench.specs.Replay.{wordsOf}
 use Rattle.bench.proofs.WordLaws.{words-long}
 use Rattle.bench.proofs.replaying.words.Statement.{statement}
 use Rattle.bench.proofs.replaying.words.Tie as tie
 
 abbrev Inv-loop : tie.InvT-loop
-Inv-loop r words₀ k₀ words k = (length words ≡ 39) × (k ≤ 39) × ((j : ℕ) → j < k → getD words j 0 ≡ getD (wordsOf r) j 0)
+Inv-loop r words₀ k₀ words k = (length words ≡ resultWords) × (k ≤ resultWords) × ((j : ℕ) → j < k → getD words j 0 ≡ getD (wordsOf r) j 0)
 
 abbrev μ-loop : tie.MeasureT-loop
-μ-loop r words₀ k₀ words k = 39 - k
+μ-loop r words₀ k₀ words k = resultWords - k
 
 registers-long : (s : tie.Start Inv-loop μ-loop) → length (s .args .r .registers) ≡ 32
 registers-long s = search needs

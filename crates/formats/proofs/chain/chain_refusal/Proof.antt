@@ -6,6 +6,7 @@ use native.Mathlib.Omega.{arith}
 use borrow.Author.Needs.{needs}
 use denote.Ref.{now}
 use lib.ListN.{length, length-set, replicate}
+use Rattle.formats.specs.Schedule.{recordLength}
 use Rattle.formats.specs.Chain.{scheduleRefusal}
 use Rattle.formats.proofs.HeadLaws.{at-least, at-most}
 use Rattle.formats.proofs.Marks.{marked, unmarked}
@@ -32,8 +33,8 @@ loop-holds : tie.Need-loop-holds Inv-loop μ-loop
 loop-holds c =
     let s = now (c .before .before .args .schedule) in
     let i = c .first-index .result in
-    let room : length s / 8 ≤ 8_192 = omega (arith, at-most (length s) (c .before .before .pre)) in
-    (omega arith, search needs, ap (λ (x : ℕ). marked x s (replicate 8_192 false) i) (sub-zero (length s / 8)) ∙ unmarked s 8_192 i room (c .first-index .ensures))
+    let room : length s / recordLength ≤ 8_192 = omega (arith, at-most (length s) (c .before .before .pre)) in
+    (omega arith, search needs, ap (λ (x : ℕ). marked x s (replicate 8_192 false) i) (sub-zero (length s / recordLength)) ∙ unmarked s 8_192 i room (c .first-index .ensures))
 
 returns : tie.Need-returns Inv-loop μ-loop
 returns c =

@@ -5,15 +5,15 @@ use mathlib.Core.Path.{_≡_, refl, ap, _∙_}
 use native.Mathlib.Omega.{arith}
 use borrow.Author.Needs.{needs}
 use Rattle.word.proofs.BytesLaws.{put-length}
-use Rattle.formats.specs.Result.{resultBytes}
+use Rattle.formats.specs.Result.{resultWords, resultLength, resultBytes}
 use Rattle.formats.proofs.result.lay.Statement.{statement}
 use Rattle.formats.proofs.result.lay.Tie as tie
 
 abbrev Inv-loop : tie.InvT-loop
-Inv-loop result₀ words i₀ result i = (i ≤ 39) × (length result ≡ 156) × (take (4 * i) result ≡ resultBytes (take i words))
+Inv-loop result₀ words i₀ result i = (i ≤ resultWords) × (length result ≡ resultLength) × (take (4 * i) result ≡ resultBytes (take i words))
 
 abbrev μ-loop : tie.MeasureT-loop
-μ-loop result₀ words i₀ result i = 39 - i
+μ-loop result₀ words i₀ result i = resultWords - i
 
 loop-holds : tie.Need-loop-holds Inv-loop μ-loop
 unfolding resultBytes
@@ -49,7 +49,7 @@ loop-again c =
     let words = c .before .before .before .before .before .before .before .args .t1 in
     let l = c .before .before .before .before .before .loop in
     let e = c .before .before .store .ensures in
-    let long : length words ≡ 39 = search needs in
+    let long : length words ≡ resultWords = search needs in
     (omega arith, ap length e ∙ put-length 4 (l .result) (4 * l .i) (getD words (l .i) 0) ∙ l .inv .1, ap (take (4 * (l .i + 1))) e ∙ laid words (l .result) (l .i) (omega arith) (omega arith) (l .inv .2))
 
 same-length : tie.Need-same-length Inv-loop μ-loop
@@ -60,7 +60,7 @@ returns : tie.Need-returns Inv-loop μ-loop
 returns c =
     let words = c .before .before .before .args .t1 in
     let l = c .before .loop in
-    let long : length words ≡ 39 = search needs in
+    let long : length words ≡ resultWords = search needs in
     all-laid words (l .result) (l .i) (omega arith) (omega arith) (l .inv .2)
 
 pub lay-spec : {M : Type 1} → statement M
