@@ -19,7 +19,7 @@ use Rattle.formats.specs.declared.Record.{Record}
 use Rattle.window.specs.Calls.{World, Made, madeBy, isCommit, make}
 use Rattle.window.specs.declared.Call.{Call}
 use Rattle.window.specs.declared.Call.the-variants.{Commit as commit}
-use Rattle.agreement.specs.Lists.{own, acceptedCommits}
+use Rattle.agreement.specs.Lists.{own, acceptedCommits, makeEvent}
 use Rattle.agreement.proofs.Turns.{Turn, refused, enters, issues, ends, settles, takes, steals, retires, halts, turn}
 use Rattle.agreement.proofs.Fits.{steady-issued}
 use Rattle.agreement.proofs.Steady.{Steady, steady-both, steady-enter, steady-place, steady-learned, steady-robbed, steady-redirected, steady-retired, halted-halt}
@@ -93,7 +93,7 @@ played-commits : (program : List ℕ) (r : Record) (p : Played)
     → let made : Made = make program (callBy r) (p .world) in
     played program r p .counts .committed + haltingCommit (played program r p .world .core)
     ≡ p .counts .committed + haltingCommit (p .world .core) + choose (isCommit (callBy r)) (choose (eqb (made .number) 0) 1 0) 0
-unfolding played
+unfolding played makeEvent
 played-commits program r p =
     let made : Made = make program (callBy r) (p .world) in
     let one = committed-is (callBy r) (p .world .core) (made .world .core) (p .counts) (eqb (made .number) 0) in
@@ -104,7 +104,7 @@ played-commits program r p =
 pub all-commits : (program : List ℕ) (events : List Record) (p : Played)
     → playedAll program events p .counts .committed + haltingCommit (playedAll program events p .world .core)
     ≡ p .counts .committed + haltingCommit (p .world .core) + acceptedCommits program (callsOf events) (p .world)
-unfolding playedAll acceptedCommits played
+unfolding playedAll acceptedCommits played makeEvent
 all-commits program [] p = omega arith
 all-commits program (r ∷ events) p =
     let one = played-commits program r p in

@@ -16,11 +16,11 @@ use Rattle.completing.specs.Complete.{completeWithin}
 use Rattle.completing.proofs.CompleteLaws.{complete-lent}
 use Rattle.committing.specs.Commit.{Commit, commitWithin}
 use Rattle.committing.proofs.CommitLaws.{commit-lent}
-use Rattle.window.specs.Calls.{World, madeBy, make}
+use Rattle.window.specs.Calls.{World, madeBy, make, stolen, dropped}
 use Rattle.window.specs.declared.Call.{Call}
 use Rattle.window.specs.declared.Call.the-variants.{Decode as decode, Issue as issue, Complete as complete, Commit as commit}
 use Rattle.events.specs.declared.Counts.{Counts}
-use Rattle.events.specs.Counts.{callBy, commits, steals, drops, accepting, refusing, Played, played}
+use Rattle.events.specs.Counts.{callBy, commits, accepting, refusing, Played, played}
 use Rattle.events.specs.Numbers.{adding}
 
 -- the call of a record, by its kind
@@ -64,7 +64,7 @@ module _ (program memory : List ℕ) (m : Core) (lent : lentRefusal m program me
   commit-made call a written q e =
       ap (λ (x : Call). make program x w) q ∙ ap (λ (x : Commit). madeBy (x .answer .core) (x .memory) (x .answer .number)) (commit-lent program memory m lent ∙ e)
 
-adding-is : (call : Call) (before after : Core) (c : Counts) (a b d : ℕ) → a ≡ commits call after → b ≡ steals call before → d ≡ drops call before after → adding a b d c ≡ accepting call before after c
+adding-is : (call : Call) (before after : Core) (c : Counts) (a b d : ℕ) → a ≡ commits call after → b ≡ stolen call before → d ≡ dropped call before after → adding a b d c ≡ accepting call before after c
 adding-is call before after c a b d p q r = rw (p, q, r)
 
 -- what an event leaves
@@ -84,5 +84,5 @@ module _ (program memory : List ℕ) (m : Core) (r : Record) (counts : Counts) (
   unfolding played
   event-counted z c = rw (e, eq-eqb number 0 z, c)
 
-  pub event-accepted : number ≡ 0 → (a b d : ℕ) → a ≡ commits (callBy r) next → b ≡ steals (callBy r) m → d ≡ drops (callBy r) m next → after ≡ adding a b d counts → left ≡ played program r begin
+  pub event-accepted : number ≡ 0 → (a b d : ℕ) → a ≡ commits (callBy r) next → b ≡ stolen (callBy r) m → d ≡ dropped (callBy r) m next → after ≡ adding a b d counts → left ≡ played program r begin
   event-accepted z a b d p q s c = event-counted z (c ∙ adding-is (callBy r) m next counts a b d p q s)

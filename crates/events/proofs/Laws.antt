@@ -12,7 +12,7 @@ use Rattle.formats.specs.declared.Record.{Record}
 use Rattle.core.specs.declared.Core.{Core}
 use Rattle.window.specs.Calls.{Made, isCommit, make}
 use Rattle.window.specs.declared.Call.{Call}
-use Rattle.agreement.specs.Lists.{makeAll}
+use Rattle.agreement.specs.Lists.{makeAll, makeEvent}
 use Rattle.events.specs.declared.Counts.{Counts}
 use Rattle.events.specs.Counts.{callBy, accepting, refusing, Played, played, playedAll}
 use Rattle.events.specs.Statement.{callsOf, haltingCommit, countedFrom, Statement}
@@ -63,7 +63,7 @@ all-committed program [] p l = l
 all-committed program (r ∷ events) p l = all-committed program events (played program r p) (played-committed program r p l)
 
 all-world : (program : List ℕ) (events : List Record) (p : Played) → playedAll program events p .world ≡ makeAll program (callsOf events) (p .world)
-unfolding playedAll makeAll played
+unfolding playedAll makeAll played makeEvent
 all-world program [] p = refl
 all-world program (r ∷ events) p = all-world program events (played program r p)
 

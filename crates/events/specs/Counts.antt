@@ -1,5 +1,5 @@
 -- What the events of a schedule count.
-use Prim.Native.Nat.{ℕ, _+_, _-_}
+use Prim.Native.Nat.{ℕ, _+_}
 use mathlib.Core.Bool.{_&&_}
 use mathlib.Core.List.{List, [], _∷_}
 use lib.Dec.{eqb}
@@ -7,8 +7,7 @@ use Rattle.isa.specs.Reads.{choose}
 use Rattle.formats.specs.Chain.{decodeKind, issueKind, completeKind}
 use Rattle.formats.specs.declared.Record.{Record}
 use Rattle.core.specs.declared.Core.{Core}
-use Rattle.completing.specs.Complete.{needsRegister, noneFree}
-use Rattle.window.specs.Calls.{World, Made, isCommit, make}
+use Rattle.window.specs.Calls.{World, Made, make, isCommit, stolen, dropped}
 use Rattle.window.specs.declared.Call.{Call}
 use Rattle.window.specs.declared.Call.the-variants.{Decode as decode, Issue as issue, Complete as complete, Commit as commit}
 use Rattle.events.specs.declared.Counts.{Counts}
@@ -21,20 +20,6 @@ callBy r = choose (eqb (r .kind) decodeKind) (decode (r .guess)) (choose (eqb (r
 abbrev pub commits : Call → Core → ℕ
 commits call after = choose (isCommit call && eqb (after .halt .cause) 0) 1 0
 
--- a theft: a register is needed and none is free
-abbrev pub steals : Call → Core → ℕ
-steals (decode guess) before = 0
-steals (issue position) before = 0
-steals (complete position) before = choose (needsRegister before position && noneFree before) 1 0
-steals commit before = 0
-
--- the entries that a wrong prediction drops, and those behind a halting one; "the halting entry is not a dropped one"
-abbrev pub drops : Call → Core → Core → ℕ
-drops (decode guess) before after = 0
-drops (issue position) before after = 0
-drops (complete position) before after = before .count - after .count
-drops commit before after = choose (eqb (after .halt .cause) 0) 0 (before .count - 1)
-
 -- an accepted call
 abbrev pub accepting : Call → Core → Core → Counts → Counts
 accepting call before after c =
@@ -42,8 +27,8 @@ accepting call before after c =
       accepted = c .accepted + 1;
       refused = c .refused;
       committed = c .committed + commits call after;
-      steals = c .steals + steals call before;
-      dropped = c .dropped + drops call before after;
+      steals = c .steals + stolen call before;
+      dropped = c .dropped + dropped call before after;
     }
 
 abbrev pub refusing : Counts → Counts

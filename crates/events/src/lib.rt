@@ -1,6 +1,8 @@
-// What the events of a schedule count.
+// The events of a schedule as calls, and what they count.
+pub mod calling;
 pub mod counting;
 
+pub use calling::call_of;
 use core::Core;
 
 // How many calls were accepted and refused, how many commits were made without a halt, how many registers were stolen and

@@ -19,7 +19,7 @@ use Rattle.core.specs.declared.Core.{Core}
 use Rattle.core.proofs.RefusalLaws.{passed, both-none}
 use Rattle.core.proofs.RangeLaws.{in-range-count}
 use Rattle.completing.specs.Complete.{needsRegister, noneFree}
-use Rattle.window.specs.Calls.{World, Made, isCommit, make}
+use Rattle.window.specs.Calls.{World, Made, isCommit, make, stolen, dropped}
 use Rattle.window.specs.declared.Call.{Call}
 use Rattle.window.specs.declared.Call.the-variants.{Decode as decode, Issue as issue, Complete as complete, Commit as commit}
 use Rattle.agreement.specs.Lists.{own, origin}
@@ -27,7 +27,7 @@ use Rattle.agreement.proofs.Kept.{Kept}
 use Rattle.agreement.proofs.Safe.{Reached, make-reached}
 use Rattle.agreement.proofs.Reaching.{started-reached, reached-range, reached-lent}
 use Rattle.events.specs.declared.Counts.{Counts}
-use Rattle.events.specs.Counts.{callBy, commits, steals, drops, accepting, refusing, Played, played, playedAll, noCounts}
+use Rattle.events.specs.Counts.{callBy, commits, accepting, refusing, Played, played, playedAll, noCounts}
 use Rattle.events.specs.Numbers.{Small}
 use Rattle.events.specs.Play.{Ready, playedOf}
 use Rattle.events.proofs.Laws.{one-most}
@@ -71,21 +71,21 @@ unfolding playedAll
 playing-more program schedule n index p some = ap (λ (events : List Record). playedAll program events p) (events-on n schedule index some)
 
 -- what one event adds to each count
-drops-most : (call : Call) (before after : Core) → drops call before after ≤ before .count
-drops-most (decode guess) before after = omega arith
-drops-most (issue position) before after = omega arith
-drops-most (complete position) before after = omega arith
-drops-most commit before after = at (eqb (after .halt .cause) 0)
+dropped-most : (call : Call) (before after : Core) → dropped call before after ≤ before .count
+dropped-most (decode guess) before after = omega arith
+dropped-most (issue position) before after = omega arith
+dropped-most (complete position) before after = omega arith
+dropped-most commit before after = at (eqb (after .halt .cause) 0)
   where
     at : (b : Bool) → choose b 0 (before .count - 1) ≤ before .count
     at true = omega arith
     at false = omega arith
 
-steals-most : (call : Call) (before : Core) → steals call before ≤ 1
-steals-most (decode guess) before = omega arith
-steals-most (issue position) before = omega arith
-steals-most (complete position) before = one-most (needsRegister before position && noneFree before)
-steals-most commit before = omega arith
+stolen-most : (call : Call) (before : Core) → stolen call before ≤ 1
+stolen-most (decode guess) before = omega arith
+stolen-most (issue position) before = omega arith
+stolen-most (complete position) before = one-most (needsRegister before position && noneFree before)
+stolen-most commit before = omega arith
 
 counts-most : (limit : ℕ) (call : Call) (before after : Core) (c : Counts) (b : Bool) → before .count ≤ 64 → Small limit c → Small (limit + 64) (choose b (accepting call before after c) (refusing c))
 counts-most limit call before after c true l s =
@@ -93,8 +93,8 @@ counts-most limit call before after c true l s =
       accepted = let a = s .accepted in omega arith;
       refused = let a = s .refused in omega arith;
       committed = let a = s .committed in let k = one-most (isCommit call && eqb (after .halt .cause) 0) in omega arith;
-      steals = let a = s .steals in let k = steals-most call before in omega arith;
-      dropped = let a = s .dropped in let k = drops-most call before after in omega arith;
+      steals = let a = s .steals in let k = stolen-most call before in omega arith;
+      dropped = let a = s .dropped in let k = dropped-most call before after in omega arith;
     }
 counts-most limit call before after c false l s =
     record {

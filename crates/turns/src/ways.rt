@@ -1,9 +1,10 @@
-// Which way an event goes, by its record and by what is seen of the machine.
+// Which way an event goes, by its call and by what is seen of the machine. All that is public is inner: replay's loop calls it.
 ghost use mathlib.Core.Path.{_≡_};
 ghost use mathlib.Core.Bool.{_||_};
 ghost use Prim.Native.Nat.{_<_, _≤_};
 ghost use lib.Dec.{eqb};
 ghost use Rattle.isa.specs.Listing.{last};
+ghost use Rattle.events.specs.Counts.{callBy};
 ghost use Rattle.turns.specs.Ways as Ways;
 use crate::Ending;
 use crate::Way;
@@ -15,23 +16,29 @@ use formats::Record;
 use tables::Entry;
 use tables::Operand;
 use tables::entries;
+use window::Call;
 
-// the place that an event looks at: the position of an issue or a complete, else that of the oldest entry
-pub fn place(r: Record) -> usize
-    ensures { λ n. ⌜ (n ≡ Ways.placeOf r) × (n < 64) × (n ≤ r .position) ⌝ }
+// a position within the entries; any other is that of the oldest entry
+fn entry_place(position: usize) -> usize
+    ensures { λ n. ⌜ (n ≡ Ways.entryPlace position) × (n < 64) × (n ≤ position) ⌝ }
 {
-    let kind = r.kind;
-    let position = r.position as usize;
     if 64 <= position {
         return 0;
     }
-    if kind == formats::ISSUE {
-        return position;
+    position
+}
+
+// the place that an event looks at: the position of an issue or a complete, else that of the oldest entry
+pub fn place(r: Record) -> usize
+    ensures { λ n. ⌜ (n ≡ Ways.placeOf (callBy r)) × (n < 64) ⌝ }
+{
+    let call = events::call_of(r);
+    match call {
+        Call::Decode(_) => 0,
+        Call::Issue(position) => entry_place(position),
+        Call::Complete(position) => entry_place(position),
+        Call::Commit => 0,
     }
-    if kind == formats::COMPLETE {
-        return position;
-    }
-    0
 }
 
 fn issue_way(e: Entry) -> Way
@@ -64,41 +71,54 @@ fn commit_way(e: Entry) -> Way
     Way::Halt
 }
 
+fn decode_way(s: Setup, count: usize) -> Way
+    ensures { λ w. ⌜ w ≡ Ways.decodeWay s count ⌝ }
+{
+    if s.window as usize <= count {
+        return Way::Refused;
+    }
+    Way::Decode
+}
+
+fn complete_way(e: Entry) -> Way
+    ensures { λ w. ⌜ w ≡ Ways.completeWay e ⌝ }
+{
+    if entries::is_issued(e) {
+        return Way::Complete;
+    }
+    Way::Refused
+}
+
 // the way of an event; 15 and 16 are found on the way
 pub fn way_of(r: Record, halt: Stop, s: Setup, count: usize, e: Entry) -> Way
-    requires { ⌜ (r .position < count → e .instruction .operation ≤ last) ⌝ }
-    ensures { λ w. ⌜ w ≡ Ways.wayOf r halt s count e ⌝ }
+    requires { ⌜ (Ways.placeOf (callBy r) < count → e .instruction .operation ≤ last) ⌝ }
+    ensures { λ w. ⌜ w ≡ Ways.wayOf (callBy r) halt s count e ⌝ }
 {
-    let kind = r.kind;
-    let position = r.position as usize;
     if halt.cause != 0 {
         return Way::Refused;
     }
-    if kind == formats::DECODE {
-        if s.window as usize <= count {
-            return Way::Refused;
+    let call = events::call_of(r);
+    match call {
+        Call::Decode(_) => decode_way(s, count),
+        Call::Issue(position) => {
+            if count <= position {
+                return Way::Refused;
+            }
+            issue_way(e)
         }
-        return Way::Decode;
-    }
-    if kind == formats::ISSUE {
-        if count <= position {
-            return Way::Refused;
+        Call::Complete(position) => {
+            if count <= position {
+                return Way::Refused;
+            }
+            complete_way(e)
         }
-        return issue_way(e);
-    }
-    if kind == formats::COMPLETE {
-        if count <= position {
-            return Way::Refused;
+        Call::Commit => {
+            if count == 0 {
+                return Way::Refused;
+            }
+            commit_way(e)
         }
-        if !entries::is_issued(e) {
-            return Way::Refused;
-        }
-        return Way::Complete;
     }
-    if count == 0 {
-        return Way::Refused;
-    }
-    commit_way(e)
 }
 
 pub fn ending_of(e: Entry, o: Outcome, head: u8) -> Ending

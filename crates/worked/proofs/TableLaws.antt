@@ -28,7 +28,7 @@ use Rattle.completing.specs.Complete.{completeRefusal, learned, redirected, com
 use Rattle.stealing.specs.Steal.{victimAmong, robbed}
 use Rattle.committing.specs.Commit.{commitRefusal, moveDown, retired, commitOf}
 use Rattle.window.specs.Calls.{make}
-use Rattle.agreement.specs.Lists.{makeAll}
+use Rattle.agreement.specs.Lists.{makeEvent, makeAll}
 use Rattle.worked.specs.Same.{sameList}
 use Rattle.worked.specs.Calls.{answersFrom}
 use Rattle.worked.specs.Claims.{test}
@@ -37,7 +37,7 @@ use Rattle.worked.proofs.ClaimLaws.{says}
 
 -- computed from the definitions
 pub passes : check ≡ true
-unfolding field extend number put fixedPart operationFrom operationOf constantOf fieldsOf readOf within accepted constantPart wordOf accessible secondBy storedBy endsWithinBy executedBy fetchAt loadsBy storesBy causeBy predictedBy readRegister writeRegister stepWith first lookUnder storeUnder tabulateFrom risingLink setUpRefusal setUpOf everyFrom entryInRange tablesWithin machineInRange changeFirst lentRefusal decodeRefusal enter decodeOf storeBelow issueRefusal issued issueOf victimAmong completeRefusal robbed learned redirected completeOf commitRefusal moveDown retired commitOf make makeAll sameList answersFrom test every
+unfolding field extend number put fixedPart operationFrom operationOf constantOf fieldsOf readOf within accepted constantPart wordOf accessible secondBy storedBy endsWithinBy executedBy fetchAt loadsBy storesBy causeBy predictedBy readRegister writeRegister stepWith first lookUnder storeUnder tabulateFrom risingLink setUpRefusal setUpOf everyFrom entryInRange tablesWithin machineInRange changeFirst lentRefusal decodeRefusal enter decodeOf storeBelow issueRefusal issued issueOf victimAmong completeRefusal robbed learned redirected completeOf commitRefusal moveDown retired commitOf make makeEvent makeAll sameList answersFrom test every
 passes = refl
 
 -- what passes at every row passes at each
