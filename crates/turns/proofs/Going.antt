@@ -22,7 +22,7 @@ use Rattle.completing.specs.Complete.{needsRegister, noneFree}
 use Rattle.window.specs.Calls.{World, Made, isCommit, make, stolen, dropped}
 use Rattle.window.specs.declared.Call.{Call}
 use Rattle.window.specs.declared.Call.the-variants.{Decode as decode, Issue as issue, Complete as complete, Commit as commit}
-use Rattle.agreement.specs.Lists.{own, origin}
+use Rattle.agreement.specs.Lists.{own, origin, makeEvent}
 use Rattle.agreement.proofs.Kept.{Kept}
 use Rattle.agreement.proofs.Safe.{Reached, make-reached}
 use Rattle.agreement.proofs.Reaching.{started-reached, reached-range, reached-lent}
@@ -185,7 +185,7 @@ module _ {program memory schedule : List ℕ} {left index : ℕ} {m : Core} {byt
     -- the event was made
     pub goes-on : (r : Record) → r ≡ recordAt schedule index → (p : Played) → p ≡ played program r here
         → Going program memory schedule (left - 1) (r .next) (p .world .core) (p .world .memory) (p .counts)
-    unfolding played
+    unfolding played makeEvent
     goes-on r at p e =
         let made : Made = make program (callBy r) w in
         let same : p .world ≡ made .world = ap (λ (x : Played). x .world) e in

@@ -12,7 +12,8 @@ mod Steals
 mod Commit
 mod Halt
 mod Refused
-use mathlib.Core.Path.{refl}
+use Prim.Native.Nat.{ℕ, _<_}
+use mathlib.Core.Path.{refl, sym, subst}
 use mathlib.Core.Logic.{⊎-elim}
 use native.Mathlib.Omega.{arith}
 use denote.Ref.{now}
@@ -80,7 +81,7 @@ array-copy-out-e c =
 
 way-of-requires : Given tie.Need-way-of-requires
 way-of-requires c κs =
-    λ h. in-range-operation (core (c .before .before .before .before .before .before .before)) _ (in-range (turn-going (c .before .before .before .before .before .before))) (let p = c .before .place .ensures .2 in omega arith)
+    λ h. in-range-operation (core (c .before .before .before .before .before .before .before)) _ (in-range (turn-going (c .before .before .before .before .before .before))) (subst (λ (n : ℕ). n < _) (sym (c .before .place .ensures .0)) h)
 
 cast-occupied : Given tie.Need-cast-occupied
 cast-occupied c =

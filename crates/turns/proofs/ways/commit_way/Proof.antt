@@ -1,12 +1,11 @@
 use borrow.Author.Tests.{not-true, not-false}
-use mathlib.Core.Path.{_≡_, refl, sym, ap, _∙_}
+use mathlib.Core.Path.{sym, _∙_}
 use borrow.Author.Tests.{eq-eqb, ne-eqb}
 use borrow.Author.Needs.{needs}
 use Rattle.turns.proofs.ways.commit_way.Statement.{statement}
 use Rattle.turns.proofs.ways.commit_way.Tie as tie
 use Rattle.turns.proofs.ways.commit_way.Reads as reads
 use Rattle.turns.proofs.ways.commit_way.Lts as lts
-use Rattle.tables.proofs.entries.is_completed.Reads as is-completed-reads
 
 is-completed-requires : tie.Need-is-completed-requires
 is-completed-requires c κs = search needs

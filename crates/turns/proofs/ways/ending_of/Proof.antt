@@ -1,4 +1,3 @@
-use mathlib.Core.Path.{_≡_, refl, sym, ap, _∙_}
 use borrow.Author.Tests.{eq-eqb, ne-eqb}
 use Rattle.turns.proofs.ways.ending_of.Statement.{statement}
 use Rattle.turns.proofs.ways.ending_of.Tie as tie

@@ -3,7 +3,6 @@ use Rattle.turns.proofs.ways.is_on.Statement.{statement}
 use Rattle.turns.proofs.ways.is_on.Tie as tie
 use Rattle.turns.proofs.ways.is_on.Reads as reads
 use Rattle.turns.proofs.ways.is_on.Lts as lts
-use Rattle.turns.proofs.ways.name_of.Reads as name-of-reads
 
 name-of-requires : tie.Need-name-of-requires
 name-of-requires c κs = search needs

@@ -1,13 +1,10 @@
 use borrow.Author.Tests.{not-true, not-false}
-use mathlib.Core.Path.{_≡_, refl, sym, ap, _∙_}
+use mathlib.Core.Path.{sym, _∙_}
 use borrow.Author.Needs.{needs}
 use Rattle.turns.proofs.ways.issue_way.Statement.{statement}
 use Rattle.turns.proofs.ways.issue_way.Tie as tie
 use Rattle.turns.proofs.ways.issue_way.Reads as reads
 use Rattle.turns.proofs.ways.issue_way.Lts as lts
-use Rattle.execution.proofs.roles.is_load.Reads as is-load-reads
-use Rattle.tables.proofs.entries.is_ready.Reads as is-ready-reads
-use Rattle.tables.proofs.entries.is_waiting.Reads as is-waiting-reads
 
 is-waiting-requires : tie.Need-is-waiting-requires
 is-waiting-requires c κs = search needs
