@@ -1,13 +1,20 @@
 /* Cirnhogul for C and C++: schedules replayed on a RISC-V core with stealable physical registers, and instruction words
-   encoded. Link with target/staticlib/libbench.a, which `rt staticlib bench` makes.
+   encoded. Link with target/staticlib/libcirnhogul.a, which `rt staticlib cirnhogul` makes.
 
-   A buffer is a pointer and its length in bytes. An empty buffer's pointer may be anything but null. Buffers that are
-   passed together must not overlap. Any bytes, lengths and numbers are taken: a call answers or refuses. */
+   A buffer is a pointer and its length in bytes. An empty buffer's pointer may be anything, null too. A pointer that is null,
+   or leads to fewer bytes than the length says, is the caller's mistake where the length is above 0, and no call can find it
+   out. Buffers that are passed together must not overlap. Any bytes, lengths and numbers are taken: a call answers or
+   refuses. */
 #ifndef CIRNHOGUL_H
 #define CIRNHOGUL_H
 
 #include <stddef.h>
 #include <stdint.h>
+
+/* The version of this header and its library. The first number rises when a layout, a number or a function below changes:
+   who calls has to look again. The second rises when one is added and those before stay; it falls to 0 with the first. */
+#define CIRNHOGUL_VERSION_MAJOR 1
+#define CIRNHOGUL_VERSION_MINOR 0
 
 #ifdef __cplusplus
 extern "C" {
@@ -67,6 +74,13 @@ enum cirnhogul_word {
     CIRNHOGUL_WORDS = 39
 };
 
+/* C before 2011 has no such test. */
+#if defined(__cplusplus)
+static_assert(CIRNHOGUL_RESULT == 4 * CIRNHOGUL_WORDS, "a result has 4 bytes a word");
+#elif defined(__STDC_VERSION__) && __STDC_VERSION__ >= 201112L
+_Static_assert(CIRNHOGUL_RESULT == 4 * CIRNHOGUL_WORDS, "a result has 4 bytes a word");
+#endif
+
 /* Causes of a halt. */
 enum cirnhogul_cause {
     CIRNHOGUL_NO_HALT = 0,
@@ -84,6 +98,21 @@ enum cirnhogul_cause {
    the result, and the replay goes on. */
 uint32_t cirnhogul_replay(const uint8_t *program, size_t program_length, uint8_t *data, size_t data_length,
                           const uint8_t *schedule, size_t schedule_length, uint8_t *result, size_t result_length);
+
+/* The library takes no null pointer, and the pointer of an empty std::vector may be null. So an empty buffer gets the address
+   of a byte here, which nothing reads or writes. The library's symbol keeps its name, for dlsym and for other languages; where
+   this header is included the name means the function below, also where its address is taken. */
+static inline uint32_t cirnhogul_replay_taking_null(const uint8_t *program, size_t program_length, uint8_t *data,
+                                                    size_t data_length, const uint8_t *schedule, size_t schedule_length,
+                                                    uint8_t *result, size_t result_length)
+{
+    uint8_t none = 0;
+    return cirnhogul_replay(program_length == 0 ? &none : program, program_length,
+                            data_length == 0 ? &none : data, data_length,
+                            schedule_length == 0 ? &none : schedule, schedule_length,
+                            result_length == 0 ? &none : result, result_length);
+}
+#define cirnhogul_replay cirnhogul_replay_taking_null
 
 /* The word of an instruction in the low 32 bits, and 0 or refusal 30 in the high 32 bits; the word is 0 at a refusal.
    Operations, in the order of the manual's RV32I listing without FENCE:

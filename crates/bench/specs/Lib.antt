@@ -1,4 +1,3 @@
 -- The definitions that the contracts cite, in reading order, and what a buyer cites.
 pub mod Replay
-pub mod Exported
 pub mod Statement

@@ -1,5 +1,4 @@
-// The Bench level: schedules replayed, with counts, and the functions that C harnesses call.
-pub mod exported;
+// The Bench level: schedules replayed, with counts.
 pub mod replaying;
 
 use events::Counts;

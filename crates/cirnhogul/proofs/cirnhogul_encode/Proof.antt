@@ -4,10 +4,10 @@ use Rattle.isa.specs.Encodes.{encodedOf}
 use mir.Syntax.{w32}
 use mir.ValLaws.{toZ-ofZ}
 use mathlib.Core.Path.{ap, _∙_}
-use Rattle.bench.specs.Exported.{packed}
+use Rattle.cirnhogul.specs.Exported.{packed}
 use borrow.Author.Needs.{needs}
-use Rattle.bench.proofs.exported.cirnhogul_encode.Statement.{statement}
-use Rattle.bench.proofs.exported.cirnhogul_encode.Tie as tie
+use Rattle.cirnhogul.proofs.cirnhogul_encode.Statement.{statement}
+use Rattle.cirnhogul.proofs.cirnhogul_encode.Tie as tie
 
 encode-requires : tie.Need-encode-requires
 encode-requires c κs = search needs

@@ -1,8 +1,8 @@
 use mathlib.Core.Path.{ap}
-use Rattle.bench.specs.Exported.{numbered}
+use Rattle.cirnhogul.specs.Exported.{numbered}
 use borrow.Author.Needs.{needs}
-use Rattle.bench.proofs.exported.cirnhogul_replay.Statement.{statement}
-use Rattle.bench.proofs.exported.cirnhogul_replay.Tie as tie
+use Rattle.cirnhogul.proofs.cirnhogul_replay.Statement.{statement}
+use Rattle.cirnhogul.proofs.cirnhogul_replay.Tie as tie
 
 replay-requires : tie.Need-replay-requires
 replay-requires c κs = search needs

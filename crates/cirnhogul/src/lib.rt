@@ -2,9 +2,8 @@
 ghost use mathlib.Core.Path.{_≡_};
 ghost use Rattle.isa.specs.Encodes.{encodedOf};
 ghost use Rattle.isa.specs.Reads.{instruction};
 ghost use Rattle.bench.specs.Replay.{replayOf};
-ghost use Rattle.bench.specs.Exported as Exported;
-use crate::replaying;
+ghost use Rattle.cirnhogul.specs.Exported as Exported;
 
 // Replay: 0 or the refusal.
 #[no_mangle]
@@ -16,7 +15,7 @@ pub extern "C" fn cirnhogul_replay(
 ) -> u32
     ensures { λ r. ⌜ Exported.numbered (replayOf (now (program .entry)) (now («data» .entry)) (now (schedule .entry)) (now (result .entry))) ≡ record { number = r; memory = now («data» .exit); result = now (result .exit) } ⌝ }
 {
-    let found = replaying::replay(program, data, schedule, result);
+    let found = bench::replay(program, data, schedule, result);
     found.number
 }
 
