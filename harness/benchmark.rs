@@ -1,11 +1,9 @@
 //! The speed of the in-order run beside a plain Rust interpreter and, where it is installed, QEMU with one instruction
-//! a block; then of the tables. Started by the script `benchmark`; docs/SPEED.md says what the figures mean.
+//! a block. Started by the script `benchmark`; docs/SPEED.md says what the figures mean.
 mod figures;
 mod interpreter;
 mod markdown;
-mod plain_tables;
 mod qemu;
-mod tables;
 mod timing;
 
 use figures::{at_four_places, nanoseconds, Best, Difference, BEST_OF};
@@ -207,5 +205,4 @@ fn main() {
         &room,
         qemu.as_ref(),
     );
-    tables::measure();
 }

@@ -2,9 +2,14 @@
 made=target/harness
 mkdir -p "$made"
 
-# Runs a command, and shows what it says only where it fails.
-quietly() {
-    "$@" >"$made/log" 2>&1 || { cat "$made/log"; exit 1; }
+# Runs an rt command and tells standard error each crate that it proves; what else it says is shown only where it fails.
+telling() {
+    rm -f "$made/passed"
+    { "$@" && : >"$made/passed"; } 2>&1 | while IFS= read -r line; do
+        printf '%s\n' "$line"
+        case $line in 'rt: '*' proved ('[0-9]*' s)') printf '%s\n' "$line" >&2 ;; esac
+    done >"$made/log"
+    [ -f "$made/passed" ] || { cat "$made/log"; exit 1; }
 }
 
 rust() {

@@ -1,7 +1,7 @@
 //! Holds the product's replay and encoder against the second opinion on random cases, and what both committed against
 //! the program run in order. Started by the script `compare`; arguments: how many cases, the seed, and the first case's
 //! index, which lets one case be run alone.
-mod bench;
+mod cirnhogul;
 
 use opinion::cases::{self, Case, SORTS};
 use opinion::in_order;
@@ -123,7 +123,7 @@ fn compare_replay(case: &Case, tally: &mut Tally) -> Option<String> {
     );
     tally.add(case, &outcome);
     let expected = outcome.as_ref().err().copied().unwrap_or(0);
-    let number = bench::replay(&case.program, data.inner(), &case.schedule, result.inner());
+    let number = cirnhogul::replay(&case.program, data.inner(), &case.schedule, result.inner());
     if number != expected {
         return Some(format!("number {number}, expected {expected}"));
     }

@@ -1,6 +1,6 @@
 //! Times the product's replay and the second opinion's on the same long schedules, in turn. Started by the script
 //! `speed`; docs/SPEED.md says what the figures mean.
-mod bench;
+mod cirnhogul;
 mod markdown;
 
 use markdown::Table;
@@ -66,7 +66,7 @@ fn repetitions(replay: Replay, long: &Long) -> u32 {
 
 /// Nanoseconds an event of both, the product's first.
 fn best(long: &Long) -> [f64; 2] {
-    let both: [Replay; 2] = [bench::replay, replay::replay];
+    let both: [Replay; 2] = [cirnhogul::replay, replay::replay];
     let times = both.map(|replay| repetitions(replay, long));
     let mut least = [f64::INFINITY; 2];
     for _ in 0..SAMPLES {
@@ -86,7 +86,7 @@ fn counts(long: &Long) -> Counts {
         schedule,
     } = long;
     let (mut ours, mut result) = (data.clone(), [0; RESULT]);
-    let number = bench::replay(program, &mut ours, schedule, &mut result);
+    let number = cirnhogul::replay(program, &mut ours, schedule, &mut result);
     let (mut theirs, mut expected) = (data.clone(), [0; RESULT]);
     let counts = replay::counted(program, &mut theirs, schedule, &mut expected);
     let same = (number, ours, result) == (0, theirs, expected);

@@ -1,4 +1,4 @@
-//! What the crates `timing` and `timing_tables` export to C.
+//! What the crate `timing` exports to C.
 
 /// What many calls of the run come to.
 #[repr(C)]
@@ -17,9 +17,6 @@ extern "C" {
         calls: u32,
     ) -> Timed;
     fn timing_find(words: *const u32, count: usize, rounds: u32) -> u64;
-    fn timing_take(rounds: u32) -> u8;
-    fn timing_wake(rounds: u32, position: u8) -> u8;
-    fn timing_drop(rounds: u32, kept: u8) -> u64;
 }
 
 pub fn run(program: &[u8], data: &mut [u8], calls: u32) -> Timed {
@@ -38,19 +35,4 @@ pub fn run(program: &[u8], data: &mut [u8], calls: u32) -> Timed {
 pub fn find(words: &[u32], rounds: u32) -> u64 {
     // SAFETY: as above.
     unsafe { timing_find(words.as_ptr(), words.len(), rounds) }
-}
-
-pub fn take(rounds: u32) -> u8 {
-    // SAFETY: this function and the next two take any numbers.
-    unsafe { timing_take(rounds) }
-}
-
-pub fn wake(rounds: u32, position: u8) -> u8 {
-    // SAFETY: as above.
-    unsafe { timing_wake(rounds, position) }
-}
-
-pub fn drop(rounds: u32, kept: u8) -> u64 {
-    // SAFETY: as above.
-    unsafe { timing_drop(rounds, kept) }
 }

@@ -1,4 +1,4 @@
-//! Replay as the crate `bench` exports it to C.
+//! Replay as the crate `cirnhogul` exports it to C.
 
 extern "C" {
     fn cirnhogul_replay(
