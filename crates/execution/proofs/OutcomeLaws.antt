@@ -48,13 +48,13 @@ proper-access : (b : Bool) (address cause result : ℕ) → cause ≤ 7 → Prop
 proper-access b address cause result h =
     proper-choose address b (goes result (onward address)) (stops address cause) (proper-goes address result (onward address)) (proper-stops address cause h)
 
-proper-by : (a : Action) (length address c first second : ℕ) → ((cause : ℕ) → a ≡ Stops cause → cause ≤ 7) → Proper address (executedBy a length address c first second)
+proper-by : (a : Action) (bytes address c first second : ℕ) → ((cause : ℕ) → a ≡ Stops cause → cause ≤ 7) → Proper address (executedBy a bytes address c first second)
 unfolding executedBy
-proper-by (Computes computation) length address c first second h = proper-performed computation address c first second
-proper-by (LoadsSigned size) length address c first second h = proper-access (accessible length (sum first c) size) address 6 second (omega arith)
-proper-by (LoadsUnsigned size) length address c first second h = proper-access (accessible length (sum first c) size) address 6 second (omega arith)
-proper-by (Stores size) length address c first second h = proper-access (accessible length (sum first c) size) address 7 0 (omega arith)
-proper-by (Stops cause) length address c first second h = proper-stops address cause (h cause refl)
+proper-by (Computes computation) bytes address c first second h = proper-performed computation address c first second
+proper-by (LoadsSigned size) bytes address c first second h = proper-access (accessible bytes (sum first c) size) address 6 second (omega arith)
+proper-by (LoadsUnsigned size) bytes address c first second h = proper-access (accessible bytes (sum first c) size) address 6 second (omega arith)
+proper-by (Stores size) bytes address c first second h = proper-access (accessible bytes (sum first c) size) address 7 0 (omega arith)
+proper-by (Stops cause) bytes address c first second h = proper-stops address cause (h cause refl)
 
 -- the causes of operations that stop
 abbrev stops-small : Action → Bool
@@ -67,26 +67,26 @@ stops-small (Stops cause) = leb cause 7
 stop-cause : (operation cause : ℕ) → actionOf operation ≡ Stops cause → cause ≤ 7
 stop-cause operation cause e = leb→le cause 7 (subst (λ (a : Action). T (stops-small a)) e (anywhere stops-small actions (Stops 1) tt tt operation))
 
-pub executed-proper : (length : ℕ) (i : Instruction) (address first second : ℕ) → Proper address (executed length i address first second)
-executed-proper length i address first second =
-    proper-by (actionOf (i .operation)) length address (wordOf (i .constant)) first second (stop-cause (i .operation))
+pub executed-proper : (bytes : ℕ) (i : Instruction) (address first second : ℕ) → Proper address (executed bytes i address first second)
+executed-proper bytes i address first second =
+    proper-by (actionOf (i .operation)) bytes address (wordOf (i .constant)) first second (stop-cause (i .operation))
 
 -- a store that ended without a cause stays within the data
-accessible-ends : (length address size : ℕ) → accessible length address size ≡ true → leb (address + size) length ≡ true
+accessible-ends : (bytes address size : ℕ) → accessible bytes address size ≡ true → leb (address + size) bytes ≡ true
 unfolding accessible
-accessible-ends length address size e = and-right (eqb (address % size) 0) (leb (address + size) length) e
+accessible-ends bytes address size e = and-right (eqb (address % size) 0) (leb (address + size) bytes) e
 
 store-at : (b : Bool) (address : ℕ) → choose b (goes 0 (onward address)) (stops address 7) .stop .cause ≡ 0 → b ≡ true
 store-at true address e = refl
 store-at false address e = absurd (omega arith)
 
-ends-by : (a : Action) (length address c first second : ℕ) → executedBy a length address c first second .stop .cause ≡ 0 → endsWithinBy a length (sum first c) ≡ true
+ends-by : (a : Action) (bytes address c first second : ℕ) → executedBy a bytes address c first second .stop .cause ≡ 0 → endsWithinBy a bytes (sum first c) ≡ true
 unfolding executedBy endsWithinBy
-ends-by (Computes computation) length address c first second e = refl
-ends-by (LoadsSigned size) length address c first second e = refl
-ends-by (LoadsUnsigned size) length address c first second e = refl
-ends-by (Stores size) length address c first second e = accessible-ends length (sum first c) size (store-at (accessible length (sum first c) size) address e)
-ends-by (Stops cause) length address c first second e = refl
+ends-by (Computes computation) bytes address c first second e = refl
+ends-by (LoadsSigned size) bytes address c first second e = refl
+ends-by (LoadsUnsigned size) bytes address c first second e = refl
+ends-by (Stores size) bytes address c first second e = accessible-ends bytes (sum first c) size (store-at (accessible bytes (sum first c) size) address e)
+ends-by (Stops cause) bytes address c first second e = refl
 
-pub executed-ends : (length : ℕ) (i : Instruction) (address first second : ℕ) → executed length i address first second .stop .cause ≡ 0 → storeEndsWithin length i first ≡ true
-executed-ends length i address first second e = ends-by (actionOf (i .operation)) length address (wordOf (i .constant)) first second e
+pub executed-ends : (bytes : ℕ) (i : Instruction) (address first second : ℕ) → executed bytes i address first second .stop .cause ≡ 0 → storeEndsWithin bytes i first ≡ true
+executed-ends bytes i address first second e = ends-by (actionOf (i .operation)) bytes address (wordOf (i .constant)) first second e

@@ -62,11 +62,11 @@ performed (Register alu) address c first second = goes (compute alu first second
 
 -- a load's result is its second value; cause 6 load, 7 store
 unfoldable pub executedBy : Action → ℕ → ℕ → ℕ → ℕ → ℕ → Outcome
-executedBy (Computes computation) length address c first second = performed computation address c first second
-executedBy (LoadsSigned size) length address c first second = choose (accessible length (sum first c) size) (goes second (onward address)) (stops address 6)
-executedBy (LoadsUnsigned size) length address c first second = choose (accessible length (sum first c) size) (goes second (onward address)) (stops address 6)
-executedBy (Stores size) length address c first second = choose (accessible length (sum first c) size) (goes 0 (onward address)) (stops address 7)
-executedBy (Stops cause) length address c first second = stops address cause
+executedBy (Computes computation) bytes address c first second = performed computation address c first second
+executedBy (LoadsSigned size) bytes address c first second = choose (accessible bytes (sum first c) size) (goes second (onward address)) (stops address 6)
+executedBy (LoadsUnsigned size) bytes address c first second = choose (accessible bytes (sum first c) size) (goes second (onward address)) (stops address 6)
+executedBy (Stores size) bytes address c first second = choose (accessible bytes (sum first c) size) (goes 0 (onward address)) (stops address 7)
+executedBy (Stops cause) bytes address c first second = stops address cause
 
 abbrev pub executed : ℕ → Instruction → ℕ → ℕ → ℕ → Outcome
-executed length i address first second = executedBy (actionOf (i .operation)) length address (wordOf (i .constant)) first second
+executed bytes i address first second = executedBy (actionOf (i .operation)) bytes address (wordOf (i .constant)) first second

@@ -13,7 +13,7 @@ use Rattle.execution.specs.Actions.{Action, Computes, LoadsSigned, Loads
 
 -- not "no multiple of its size or whose bytes leave the data"
 unfoldable pub accessible : ℕ → ℕ → ℕ → Bool
-accessible length address size = eqb (address % size) 0 && leb (address + size) length
+accessible bytes address size = eqb (address % size) 0 && leb (address + size) bytes
 
 -- the address that a load or a store goes to
 abbrev pub effective : Instruction → ℕ → ℕ
@@ -25,11 +25,11 @@ signExtended size n = wordOf (extend (2 ^ (8 * size - 1)) n)
 
 -- "a load reads data, extended to 32 bits, as its second value (0 where cause 6 applies)"
 unfoldable pub secondBy : Action → ℕ → ℕ → ℕ → (ℕ → ℕ) → ℕ
-secondBy (Computes computation) length address second byte = second
-secondBy (LoadsSigned size) length address second byte = choose (accessible length address size) (signExtended size (number byte address size)) 0
-secondBy (LoadsUnsigned size) length address second byte = choose (accessible length address size) (number byte address size) 0
-secondBy (Stores size) length address second byte = second
-secondBy (Stops cause) length address second byte = second
+secondBy (Computes computation) bytes address second byte = second
+secondBy (LoadsSigned size) bytes address second byte = choose (accessible bytes address size) (signExtended size (number byte address size)) 0
+secondBy (LoadsUnsigned size) bytes address second byte = choose (accessible bytes address size) (number byte address size) 0
+secondBy (Stores size) bytes address second byte = second
+secondBy (Stops cause) bytes address second byte = second
 
 abbrev pub secondValue : Instruction → ℕ → ℕ → List ℕ → ℕ
 secondValue i first second memory = secondBy (actionOf (i .operation)) (length memory) (effective i first) second (byteOf memory)
@@ -45,13 +45,13 @@ storedBy (Stops cause) address value memory = memory
 abbrev pub stored : Instruction → ℕ → ℕ → List ℕ → List ℕ
 stored i first second memory = storedBy (actionOf (i .operation)) (effective i first) second memory
 
--- whether a store's bytes stay within the length, aligned or not; other instructions have none
+-- whether a store's bytes stay within the memory's, aligned or not; other instructions have none
 unfoldable pub endsWithinBy : Action → ℕ → ℕ → Bool
-endsWithinBy (Computes computation) length address = true
-endsWithinBy (LoadsSigned size) length address = true
-endsWithinBy (LoadsUnsigned size) length address = true
-endsWithinBy (Stores size) length address = leb (address + size) length
-endsWithinBy (Stops cause) length address = true
+endsWithinBy (Computes computation) bytes address = true
+endsWithinBy (LoadsSigned size) bytes address = true
+endsWithinBy (LoadsUnsigned size) bytes address = true
+endsWithinBy (Stores size) bytes address = leb (address + size) bytes
+endsWithinBy (Stops cause) bytes address = true
 
 abbrev pub storeEndsWithin : ℕ → Instruction → ℕ → Bool
-storeEndsWithin length i first = endsWithinBy (actionOf (i .operation)) length (effective i first)
+storeEndsWithin bytes i first = endsWithinBy (actionOf (i .operation)) bytes (effective i first)

@@ -60,11 +60,11 @@ fn branches(kind: u8, address: u32, c: u32, first: u32, second: u32) -> Outcome
 }
 
 // a load or a store, which stops with this cause where its bytes cannot be accessed
-fn accesses(length: usize, size: u8, cause: u8, address: u32, at: u32, result: u32) -> Outcome
+fn accesses(bytes: usize, size: u8, cause: u8, address: u32, at: u32, result: u32) -> Outcome
     requires { ⌜ 0 < size ⌝ }
-    ensures { λ r. ⌜ r ≡ choose (Memory.accessible length at size) (Execute.goes result (Execute.onward address)) (Execute.stops address cause) ⌝ }
+    ensures { λ r. ⌜ r ≡ choose (Memory.accessible bytes at size) (Execute.goes result (Execute.onward address)) (Execute.stops address cause) ⌝ }
 {
-    if memory::accessible(length, at, size) {
+    if memory::accessible(bytes, at, size) {
         goes(result, onward(address))
     } else {
         stops(address, cause)
@@ -75,14 +75,14 @@ fn accesses(length: usize, size: u8, cause: u8, address: u32, at: u32, result: u
 pub fn perform(
     class: u8,
     kind: u8,
-    length: usize,
+    bytes: usize,
     address: u32,
     c: u32,
     first: u32,
     second: u32,
 ) -> Outcome
     requires { ⌜ (signedLoads ≤ class → 0 < kind) ⌝ }
-    ensures { λ r. ⌜ r ≡ Execute.executedBy (actionAt class kind) length address c first second ⌝ }
+    ensures { λ r. ⌜ r ≡ Execute.executedBy (actionAt class kind) bytes address c first second ⌝ }
 {
     match class {
         actions::LUI => goes(word::shift_left(c, 12), onward(address)),
@@ -92,24 +92,24 @@ pub fn perform(
         actions::BRANCH => branches(kind, address, c, first, second),
         actions::IMMEDIATE => goes(alu::compute(kind, first, c), onward(address)),
         actions::REGISTER => goes(alu::compute(kind, first, second), onward(address)),
-        actions::LOAD_SIGNED => accesses(length, kind, 6, address, word::add(first, c), second),
-        actions::LOAD_UNSIGNED => accesses(length, kind, 6, address, word::add(first, c), second),
-        actions::STORE => accesses(length, kind, 7, address, word::add(first, c), 0),
+        actions::LOAD_SIGNED => accesses(bytes, kind, 6, address, word::add(first, c), second),
+        actions::LOAD_UNSIGNED => accesses(bytes, kind, 6, address, word::add(first, c), second),
+        actions::STORE => accesses(bytes, kind, 7, address, word::add(first, c), 0),
         _ => stops(address, kind),
     }
 }
 
 // Result, next address and stop of an instruction, from its address and the two values read.
-pub fn execute(length: usize, i: Instruction, address: u32, first: u32, second: u32) -> Outcome
+pub fn execute(bytes: usize, i: Instruction, address: u32, first: u32, second: u32) -> Outcome
     requires { ⌜ i .operation ≤ last ⌝ }
-    ensures { λ r. ⌜ r ≡ Execute.executed length i address first second ⌝ }
+    ensures { λ r. ⌜ r ≡ Execute.executed bytes i address first second ⌝ }
 {
     let operation = i.operation as usize;
     let constant = word::to_word(i.constant);
     perform(
         actions::class(operation),
         actions::kind(operation),
-        length,
+        bytes,
         address,
         constant,
         first,

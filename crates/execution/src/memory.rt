@@ -9,14 +9,14 @@ ghost use Rattle.execution.specs.Memory as Memory;
 use crate::actions;
 use isa::Instruction;
 
-// whether the access is aligned and stays within the length
-pub fn accessible(length: usize, address: u32, size: u8) -> bool
+// whether the access is aligned and stays within the memory's bytes
+pub fn accessible(bytes: usize, address: u32, size: u8) -> bool
     requires { ⌜ 0 < size ⌝ }
-    ensures { λ r. ⌜ r ≡ Memory.accessible length address size ⌝ }
+    ensures { λ r. ⌜ r ≡ Memory.accessible bytes address size ⌝ }
 {
     let at = address as usize;
-    let bytes = size as usize;
-    (at % bytes == 0) & (at + bytes <= length)
+    let width = size as usize;
+    (at % width == 0) & (at + width <= bytes)
 }
 
 // the address that a load or a store goes to
@@ -82,9 +82,9 @@ pub fn store_by(class: u8, size: u8, data: &mut [u8], address: u32, second: u32)
 {
     if class == actions::STORE {
         let at = address as usize;
-        let bytes = size as usize;
-        if at + bytes <= data.len() {
-            word::store(data, at, bytes, second);
+        let width = size as usize;
+        if at + width <= data.len() {
+            word::store(data, at, width, second);
         }
     }
 }
@@ -100,16 +100,16 @@ pub fn store(i: Instruction, data: &mut [u8], first: u32, second: u32)
     store_by(class, size, data, effective(i, first), second);
 }
 
-// whether a store's bytes stay within the length; other instructions have none
-pub fn store_ends_within(length: usize, i: Instruction, first: u32) -> bool
+// whether a store's bytes stay within the memory's; other instructions have none
+pub fn store_ends_within(bytes: usize, i: Instruction, first: u32) -> bool
     requires { ⌜ i .operation ≤ last ⌝ }
-    ensures { λ r. ⌜ r ≡ Memory.storeEndsWithin length i first ⌝ }
+    ensures { λ r. ⌜ r ≡ Memory.storeEndsWithin bytes i first ⌝ }
 {
     let operation = i.operation as usize;
     if actions::class(operation) == actions::STORE {
         let size = actions::kind(operation);
         let address = effective(i, first);
-        return address as usize + size as usize <= length;
+        return address as usize + size as usize <= bytes;
     }
     true
 }

@@ -60,7 +60,7 @@ statement =
       stored-length = stored-length;
       step-length = step-length;
       stopped = step-kept;
-      cause-range = λ length i address first second. executed-proper length i address first second .cause;
+      cause-range = λ bytes i address first second. executed-proper bytes i address first second .cause;
       registers = λ program address e. let s = fetched-small program address e in (s .rs1, s .rs2, s .rd);
       composed = λ n m program s. composed m program n s;
     }

@@ -28,7 +28,7 @@ pub record Statement : Type 0 where
   -- a stopped instruction changes nothing
   pub stopped : (program : List ℕ) (s : State) → (stepOf program s .stop .cause ≡ 0 → ⊥) → stepOf program s .state ≡ s
   -- causes are 0 to 7
-  pub cause-range : (length : ℕ) (i : Instruction) (address first second : ℕ) → executed length i address first second .stop .cause ≤ 7
+  pub cause-range : (bytes : ℕ) (i : Instruction) (address first second : ℕ) → executed bytes i address first second .stop .cause ≤ 7
   -- what is fetched names registers
   pub registers : (program : List ℕ) (address : ℕ) → fetchAt program address .found ≡ true
       → (firstSource (fetchAt program address .fields) < 32) × (secondSource (fetchAt program address .fields) < 32) × (destination (fetchAt program address .fields) < 32)

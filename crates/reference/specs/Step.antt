@@ -83,10 +83,10 @@ first (number ∷ numbers) = choose (eqb number 0) (first numbers) number
 
 -- "Program: 4 to 16,384 bytes, a multiple of 4. Data: 0 to 16,384 bytes."
 abbrev pub programFits : ℕ → Bool
-programFits length = leb 4 length && leb length 16_384 && eqb (length % 4) 0
+programFits bytes = leb 4 bytes && leb bytes 16_384 && eqb (bytes % 4) 0
 
 abbrev pub dataFits : ℕ → Bool
-dataFits length = leb length 16_384
+dataFits bytes = leb bytes 16_384
 
 unfoldable pub lengthsRefusal : ℕ → ℕ → ℕ
 lengthsRefusal program bytes = first (when (not (programFits program)) 3 ∷ when (not (dataFits bytes)) 4 ∷ [])

@@ -2,10 +2,10 @@ ghost use mathlib.Core.Path.{_≡_};
 ghost use Rattle.reference.specs.Step.{lengthsRefusal, lengthRefusal};
 
 // refusal 3 for a program's length, 4 for the data's, 0 for none
-pub fn refusal_of(length: usize, bytes: usize) -> u8
-    ensures { λ r. ⌜ r ≡ lengthsRefusal length bytes ⌝ }
+pub fn refusal_of(program: usize, bytes: usize) -> u8
+    ensures { λ r. ⌜ r ≡ lengthsRefusal program bytes ⌝ }
 {
-    let fits = (4 <= length) & (length <= 16_384) & (length % 4 == 0);
+    let fits = (4 <= program) & (program <= 16_384) & (program % 4 == 0);
     if !fits {
         return 3;
     }

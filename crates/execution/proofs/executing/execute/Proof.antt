@@ -35,8 +35,8 @@ returns c =
     let action = action-of (i .operation) (c .before .before .class .result) (c .before .kind .result) (c .before .before .before .before .before .before .pre) (c .before .before .class .ensures) (c .before .kind .ensures) in
     let constant = c .before .before .before .to-word .ensures ∙ ap (ofZ w32) (toZ-ofZ w32 (i .constant) (search needs)) in
     c .perform .ensures
-    ∙ ap (λ (x : Action). executedBy x (a .length) (a .address) (c .before .before .before .to-word .result) (a .first) (a .second)) action
-    ∙ ap (λ (n : ℕ). executedBy (actionOf (i .operation)) (a .length) (a .address) n (a .first) (a .second)) constant
+    ∙ ap (λ (x : Action). executedBy x (a .bytes) (a .address) (c .before .before .before .to-word .result) (a .first) (a .second)) action
+    ∙ ap (λ (n : ℕ). executedBy (actionOf (i .operation)) (a .bytes) (a .address) n (a .first) (a .second)) constant
 
 pub execute-spec : {M : Type 1} → statement M
 execute-spec =

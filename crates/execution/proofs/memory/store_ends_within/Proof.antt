@@ -34,7 +34,7 @@ returns c =
     let a = c .before .before .before .before .before .args in
     let size = c .before .kind .result in
     let action = stores (a .i .operation) (c .before .before .before .class .result) size (c .before .before .before .before .before .pre) (c .before .before .before .class .ensures) (c .before .kind .ensures) (c .before .before .if1 .taken) in
-    ap (λ (n : ℕ). leb (n + size) (a .length)) (c .effective .ensures) ∙ ends-store (a .i) (a .first) (a .length) size action
+    ap (λ (n : ℕ). leb (n + size) (a .bytes)) (c .effective .ensures) ∙ ends-store (a .i) (a .first) (a .bytes) size action
 
 returns-2 : tie.Need-returns-2
 returns-2 c =
