@@ -8,9 +8,9 @@ use borrow.Author.Tests.{eq-eqb, ne-eqb}
 use lib.ListN.{length}
 use Rattle.core.specs.SetUp.{freshMachine, setUpOf}
 use Rattle.ranges.specs.Sizes.{setUpRefusal}
-use Rattle.core.specs.Report.{reportOf}
+use Rattle.window.specs.Report.{reportOf}
 use Rattle.core.specs.declared.Answer.{Answer}
-use Rattle.core.specs.declared.Report.{Report}
+use Rattle.window.specs.declared.Report.{Report}
 use Rattle.formats.specs.Schedule.{longest, windowIn, registersIn, scheduleFits}
 use Rattle.formats.specs.Chain.{eventsOf}
 use Rattle.formats.specs.Result.{resultLength, rateOf, resultBytes}

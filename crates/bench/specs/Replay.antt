@@ -7,7 +7,7 @@ use lib.ListN.{length, drop, replicate}
 use Rattle.isa.specs.Reads.{choose}
 use Rattle.reference.specs.Step.{when, first, lengthRefusal}
 use Rattle.ranges.specs.Sizes.{setUpRefusal}
-use Rattle.core.specs.Report.{reportOf}
+use Rattle.window.specs.Report.{reportOf}
 use Rattle.formats.specs.Schedule.{windowIn, registersIn, headRefusal}
 use Rattle.formats.specs.Chain.{scheduleRefusal}
 use Rattle.formats.specs.Result.{resultLength, rateOf, resultBytes}

@@ -8,6 +8,7 @@ use crate::Replayed;
 use core::Core;
 use events::Counts;
 use ranges::sizes;
+use window::Machine;
 
 // the first refusal, before any event, or 0
 fn refusal(program: &[u8], data: &[u8], schedule: &[u8], size: usize) -> u8
@@ -46,7 +47,8 @@ fn figures(program: &[u8], data: &mut [u8], schedule: &[u8]) -> Replayed
     let core = played.core;
     let counts = played.counts;
     let halt = core.halt;
-    let report = core.report();
+    let machine = Machine { core };
+    let report = machine.report();
     let values = report.registers;
     Replayed {
         counts,

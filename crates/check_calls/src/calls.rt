@@ -7,41 +7,51 @@ use isa::Instruction;
 use reference::Fetching;
 use tables::Entry;
 use tables::entries;
+use window::Call;
 use window::Machine;
+use window::Report;
 
-pub struct Call {
-    pub kind: u8,
-    pub position: usize,
-    pub guess: u32,
+// which call is chosen
+const DECODE: u8 = 1;
+
+const ISSUE: u8 = 2;
+
+const COMPLETE: u8 = 3;
+
+const COMMIT: u8 = 4;
+
+fn call(kind: u8, position: usize, guess: u32) -> Call {
+    match kind {
+        DECODE => Call::Decode(guess),
+        ISSUE => Call::Issue(position),
+        COMPLETE => Call::Complete(position),
+        _ => Call::Commit,
+    }
 }
 
-pub const DECODE: u8 = 1;
-
-pub const ISSUE: u8 = 2;
-
-pub const COMPLETE: u8 = 3;
-
-pub const COMMIT: u8 = 4;
-
-fn called(machine: Machine, program: &[u8], data: &mut [u8], c: Call) -> window::Answer {
-    let kind = c.kind;
-    match kind {
-        DECODE => machine.decode(program, data, c.guess),
-        ISSUE => machine.issue(program, data, c.position),
-        COMPLETE => machine.complete(program, data, c.position),
-        _ => machine.commit(program, data),
+pub fn is_commit(c: Call) -> bool {
+    match c {
+        Call::Decode(_) => false,
+        Call::Issue(_) => false,
+        Call::Complete(_) => false,
+        Call::Commit => true,
     }
 }
 
 pub fn made(m: Core, program: &[u8], data: &mut [u8], c: Call) -> Answer {
     let machine = Machine { core: m };
-    let answer = called(machine, program, data, c);
+    let answer = machine.make(c, program, data);
     let after = answer.machine;
     let core = after.core;
     Answer {
         core,
         number: answer.number,
     }
+}
+
+pub fn reported(m: Core) -> Report {
+    let machine = Machine { core: m };
+    machine.report()
 }
 
 // a call; with 0 and 1 another program's or other data's length is lent
@@ -145,16 +155,14 @@ fn guess(program: &[u8], address: u32, registers: [u32; 32], x: u32) -> u32 {
 
 // The call that document 01's further calls make on this machine.
 pub fn further(m: Core) -> Call {
+    if m.count == 0 {
+        return Call::Decode(word::add(m.fetch, 4));
+    }
     let oldest = m.entries[0];
-    let needed = match status(oldest) {
-        0 => ISSUE,
-        1 => COMPLETE,
-        _ => COMMIT,
-    };
-    Call {
-        kind: if m.count == 0 { DECODE } else { needed },
-        position: 0,
-        guess: word::add(m.fetch, 4),
+    match status(oldest) {
+        0 => Call::Issue(0),
+        1 => Call::Complete(0),
+        _ => Call::Commit,
     }
 }
 
@@ -169,9 +177,7 @@ pub fn chosen(m: Core, program: &[u8], registers: [u32; 32], seed: u32) -> Call 
     if (near == 64) & !at_random & ((kind == ISSUE) | (kind == COMPLETE)) {
         return further(m);
     }
-    Call {
-        kind,
-        position: if at_random { any } else { near },
-        guess: guess(program, m.fetch, registers, draw(seed, 3)),
-    }
+    let position = if at_random { any } else { near };
+    let guess = guess(program, m.fetch, registers, draw(seed, 3));
+    call(kind, position, guess)
 }

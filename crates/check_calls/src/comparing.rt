@@ -29,7 +29,7 @@ pub fn stepped(o: Ordered, program: &[u8], data: &mut [u8], further: bool) -> Or
 
 // report, next address and halt as the in-order run has them
 pub fn agrees(m: Core, o: Ordered) -> bool {
-    let report = m.report();
+    let report = calls::reported(m);
     let values = report.registers;
     let wanted = o.registers;
     let halt = m.halt;

@@ -1,7 +1,6 @@
 // What was seen, each kind at its place of a table of counts.
-use crate::calls;
-use crate::calls::Call;
 use core::Core;
+use window::Call;
 
 pub const LISTS: usize = 0;
 
@@ -89,12 +88,11 @@ pub fn told(counts: &mut [u64], before: Core, after: Core, c: Call, number: u8) 
         return;
     }
     more(counts, ACCEPTED, 1);
-    if c.kind == calls::COMPLETE {
-        completed(counts, before, after, c.position);
-        return;
-    }
     let halt = after.halt;
-    if c.kind == calls::COMMIT {
-        committed(counts, before.count, halt.cause);
+    match c {
+        Call::Decode(_) => {}
+        Call::Issue(_) => {}
+        Call::Complete(position) => completed(counts, before, after, position),
+        Call::Commit => committed(counts, before.count, halt.cause),
     }
 }

@@ -1,9 +1,9 @@
 // A call on a copy of the machine with one number out of range: 5, and the copy comes back as it was.
 use crate::calls;
-use crate::calls::Call;
 use crate::comparing;
 use crate::counting;
 use core::Core;
+use window::Call;
 
 fn damaged(m: Core, k: u32) -> Core {
     let mut d = m;
@@ -22,32 +22,10 @@ fn damaged(m: Core, k: u32) -> Core {
 
 pub fn tried(m: Core, program: &[u8], data: &mut [u8], c: Call, k: u32, counts: &mut [u64]) {
     let d = damaged(m, k);
-    let kind = c.kind;
-    let position = c.position;
-    let guess = c.guess;
-    let a = calls::made(
-        d,
-        program,
-        data,
-        Call {
-            kind,
-            position,
-            guess,
-        },
-    );
+    let a = calls::made(d, program, data, c);
     let core = a.core;
-    let report = d.report();
-    counting::told(
-        counts,
-        d,
-        core,
-        Call {
-            kind,
-            position,
-            guess,
-        },
-        a.number,
-    );
+    let report = calls::reported(d);
+    counting::told(counts, d, core, c, a.number);
     let right = (a.number == 5) & (report.number == 5) & comparing::same(d, core);
     counting::expect(counts, counting::DIFFERENCES, right);
 }

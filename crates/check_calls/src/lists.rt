@@ -1,7 +1,6 @@
 // Lists of calls from a fresh machine, beside the in-order run.
 use crate::accounting;
 use crate::calls;
-use crate::calls::Call;
 use crate::chance;
 use crate::chance::draw;
 use crate::comparing;
@@ -11,6 +10,8 @@ use crate::damage;
 use crate::programs;
 use crate::resting;
 use core::Core;
+use window::Call;
+use window::Machine;
 
 struct Run {
     core: Core,
@@ -51,7 +52,7 @@ fn called(
     let o = r.ordered;
     let a = calls::lent(before, program, data, c, other);
     let after = a.core;
-    let commits = (a.number == 0) & (c.kind == calls::COMMIT);
+    let commits = (a.number == 0) & calls::is_commit(c);
     let ordered = comparing::stepped(o, program, want, commits);
     let same_data = check::same(data, want);
     judged(
@@ -74,22 +75,18 @@ fn called(
 fn further(r: Run, program: &[u8], data: &mut [u8], want: &mut [u8], counts: &mut [u64]) -> Run {
     let start = counting::at(counts, counting::ACCEPTED);
     let mut r = r;
-    let mut kind = 0u8;
+    let mut committed = false;
     let mut k = 0u64;
-    while k < 4 && kind != calls::COMMIT {
+    while k < 4 && !committed {
         let m = r.core;
         let c = calls::further(m);
-        kind = c.kind;
+        committed = calls::is_commit(c);
         r = called(r, program, data, want, c, 2, counts);
         k += 1;
     }
     let accepted = counting::at(counts, counting::ACCEPTED) == std::num::wrapping_add_u64(start, k);
     counting::more(counts, counting::ROUNDS, 1);
-    counting::expect(
-        counts,
-        counting::DIFFERENCES,
-        accepted & (kind == calls::COMMIT),
-    );
+    counting::expect(counts, counting::DIFFERENCES, accepted & committed);
     r
 }
 
@@ -183,8 +180,9 @@ fn ended(
 }
 
 fn fresh(w: u32, n: u32, program: usize, bytes: usize) -> Run {
-    let a = Core::set_up(w, n, program, bytes);
-    let core = a.core;
+    let a = Machine::set_up(w, n, program, bytes);
+    let machine = a.machine;
+    let core = machine.core;
     let ordered = Ordered {
         registers: [0; 32],
         address: 0,

@@ -1,5 +1,6 @@
 // Whether a machine is refused by 5, or passes.
 use core::Core;
+use window::Machine;
 
 // How many machines with a damaged number were to be refused by 5, how many with a number at its limit were to pass, how
 // many with a number that 5 does not look at were to pass, and how many did otherwise.
@@ -21,13 +22,15 @@ pub fn none() -> Tally {
 
 // refused by the sweep and by the report, which then has all values 0
 pub fn is_refused(m: Core) -> bool {
-    let report = m.report();
+    let machine = Machine { core: m };
+    let report = machine.report();
     let values = report.registers;
     !m.in_range() & (report.number == 5) & vectors::same_registers(values, [0; 32])
 }
 
 pub fn passes(m: Core) -> bool {
-    let report = m.report();
+    let machine = Machine { core: m };
+    let report = machine.report();
     m.in_range() & (report.number == 0)
 }
 

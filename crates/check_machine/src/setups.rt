@@ -4,6 +4,7 @@ use core::Core;
 use tables::Entry;
 use tables::Operand;
 use tables::State;
+use window::Machine;
 
 // by: how many should be refused by 1 to 4, and at 0 how many should be accepted
 struct Setups {
@@ -192,7 +193,8 @@ fn numbers(m: Core, w: u32, n: u32, program: usize, bytes: usize, head: u8) -> b
 
 // a fresh machine passes, and reports zeros
 fn reports_zeros(m: Core) -> bool {
-    let report = m.report();
+    let machine = Machine { core: m };
+    let report = machine.report();
     let values = report.registers;
     judging::passes(m) & vectors::same_registers(values, [0; 32])
 }
@@ -200,8 +202,9 @@ fn reports_zeros(m: Core) -> bool {
 // whether set-up answers as expected, with a fresh machine or one of zeros, which 5 refuses
 fn right(w: u32, n: u32, program: usize, bytes: usize) -> bool {
     let number = expected(w, n, program, bytes);
-    let answer = Core::set_up(w, n, program, bytes);
-    let m = answer.core;
+    let answer = Machine::set_up(w, n, program, bytes);
+    let machine = answer.machine;
+    let m = machine.core;
     if number != 0 {
         return (answer.number == number)
             & numbers(m, 0, 0, 0, 0, 0)

@@ -8,10 +8,10 @@ use Rattle.check_calls.proofs.lists.further.Statement.{statement}
 use Rattle.check_calls.proofs.lists.further.Tie as tie
 
 abbrev Inv-loop : tie.InvT-loop
-Inv-loop program data₀ want₀ counts₀ start r₀ kind₀ k₀ «data» want counts r kind k = (length «data» ≡ length data₀) × (length want ≡ length want₀) × (length counts ≡ length counts₀)
+Inv-loop program data₀ want₀ counts₀ start r₀ committed₀ k₀ «data» want counts r committed k = (length «data» ≡ length data₀) × (length want ≡ length want₀) × (length counts ≡ length counts₀)
 
 abbrev μ-loop : tie.MeasureT-loop
-μ-loop program data₀ want₀ counts₀ start r₀ kind₀ k₀ «data» want counts r kind k = 4 - k
+μ-loop program data₀ want₀ counts₀ start r₀ committed₀ k₀ «data» want counts r committed k = 4 - k
 
 at-requires : tie.Need-at-requires Inv-loop μ-loop
 at-requires c κs = search needs
