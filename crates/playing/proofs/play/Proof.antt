@@ -81,7 +81,7 @@ array-copy-out-e c =
 
 way-of-requires : Given tie.Need-way-of-requires
 way-of-requires c κs =
-    λ h. in-range-operation (core (c .before .before .before .before .before .before .before)) _ (in-range (turn-going (c .before .before .before .before .before .before))) (subst (λ (n : ℕ). n < _) (sym (c .before .place .ensures .0)) h)
+    λ h. in-range-operation (core (c .before .before .before .before .before .before .before)) _ (in-range (turn-going (c .before .before .before .before .before .before))) (subst (λ (n : ℕ). n < core (c .before .before .before .before .before .before .before) .count) (sym (c .before .place .ensures .0)) h)
 
 cast-occupied : Given tie.Need-cast-occupied
 cast-occupied c =
