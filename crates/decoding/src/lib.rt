@@ -6,9 +6,9 @@ ghost use Prim.Native.Nat.{_<_, _≤_};
 ghost use lib.ListN.{length};
 ghost use lib.Dec.{leb, eqb};
 ghost use Rattle.isa.specs.Listing.{last};
-ghost use Rattle.isa.specs.Reads.{choose};
+ghost use Rattle.isa.specs.Reads.{choose, none};
 ghost use Rattle.reference.specs.Step.{when, first};
-ghost use Rattle.reference.specs.Fetch.{fetchAt, fetchNumbers};
+ghost use Rattle.reference.specs.Fetch.{fetchAt};
 ghost use Rattle.decoding.specs.Decode as Decode;
 ghost use Rattle.decoding.specs.Seen.{seen};
 use core::Answer;
@@ -16,7 +16,8 @@ use core::Core;
 use execution::Stop;
 use execution::roles;
 use isa::Instruction;
-use reference::Fetching;
+use isa::Reading;
+use reference::program;
 use tables::Entry;
 use tables::Operand;
 use tables::State;
@@ -58,6 +59,20 @@ fn ended(address: u32, instruction: Instruction, cause: u8) -> Entry
     }
 }
 
+// an entry for which decode found no instruction
+fn without_instruction(address: u32, cause: u8) -> Entry
+    ensures { λ r. ⌜ r ≡ Decode.endedEntry address none cause ⌝ }
+{
+    let none = Instruction {
+        operation: 0,
+        rd: 0,
+        rs1: 0,
+        rs2: 0,
+        constant: 0,
+    };
+    ended(address, none, cause)
+}
+
 fn name_for(head: u8, destination: u8) -> u8
     ensures { λ r. ⌜ r ≡ choose (eqb destination 0) 0 head ⌝ }
 {
@@ -90,16 +105,6 @@ fn waiting(
         previous,
         state: State::Waits,
         stop: Stop { cause: 0 },
-    }
-}
-
-// the cause with which there is no instruction, 0 where there is one
-fn cause_of(fetched: Fetching) -> u8
-    ensures { λ r. ⌜ r ≡ fetchNumbers fetched .cause ⌝ }
-{
-    match fetched {
-        Fetching::Found(_) => 0,
-        Fetching::Stopped(stop) => stop.cause,
     }
 }
 
@@ -157,17 +162,12 @@ pub fn entry_for<'a>(
     requires { ⌜ (length (now mapname) ≡ 32) × (length (now mapregister) ≡ 32) × (length (now mapvalid) ≡ 32) ⌝ }
     ensures { λ r. ⌜ r ≡ Decode.entryFor (seen (now (mapname .entry)) (now (mapregister .entry)) (now (mapvalid .entry)) head address) (fetchAt (now (program .entry)) address) guess ⌝ }
 {
-    let fetched = reference::fetch(program, address);
-    let cause = cause_of(fetched);
-    let Fetching::Found(i) = fetched else {
-        let none = Instruction {
-            operation: 0,
-            rd: 0,
-            rs1: 0,
-            rs2: 0,
-            constant: 0,
-        };
-        return ended(address, none, cause);
+    if !program::has_word(program, address) {
+        return without_instruction(address, 4);
+    }
+    let word = program::word_at(program, address);
+    let Reading::Legal(i) = isa::read(word) else {
+        return without_instruction(address, 1);
     };
     let at_once = roles::cause_at_once(i);
     if at_once != 0 {

@@ -1,20 +1,17 @@
 -- What a fetch says of the program.
 use Prim.Native.Nat.{ℕ, zero, suc}
-use mathlib.Core.Path.{_≡_, refl, sym, ap, subst, _∙_}
+use mathlib.Core.Path.{_≡_, refl, sym, ap, subst}
 use mathlib.Core.Bool.{Bool, true, false, _||_}
 use mathlib.Core.List.{List}
 use borrow.Author.Tests.{eqb-true}
 use lib.Dec.{eqb}
-use lib.ListN.{length}
-use Rattle.word.specs.Bytes.{number, byteOf}
 use Rattle.laws.proofs.Bools.{impossible}
 use Rattle.isa.specs.Reads.{choose, none, Numbers, legal, illegal, operationOf, readAs, readOf}
 use Rattle.isa.specs.declared.Instruction.{Instruction}
 use Rattle.isa.proofs.Accepted.{Accepted}
 use Rattle.isa.proofs.Ranges.{read-accepted}
 use Rattle.isa.proofs.ReadLaws.{Small, legal-small}
-use Rattle.execution.specs.Memory.{accessible}
-use Rattle.reference.specs.Fetch.{FetchNumbers, noInstruction, fetchNumbers, ofReading, fetchAt}
+use Rattle.reference.specs.Fetch.{FetchNumbers, noInstruction, fetchNumbers, ofReading, hasWord, wordAt, fetchAt}
 use Rattle.reference.specs.declared.Fetching.{Fetching}
 use Rattle.reference.specs.declared.Fetching.the-variants.{Found, Stopped}
 
@@ -26,16 +23,15 @@ fetch-injective (Stopped s) (Found j) e = impossible (ap (λ (n : FetchNumbers).
 fetch-injective (Stopped s) (Stopped t) e = ap (λ (n : FetchNumbers). Stopped (record { cause = n .cause })) e
 
 module _ (program : List ℕ) (address : ℕ) where
-  pub fetch-outside : accessible (length program) address 4 ≡ false → noInstruction 4 ≡ fetchAt program address
+  pub fetch-outside : hasWord program address ≡ false → noInstruction 4 ≡ fetchAt program address
   unfolding fetchAt
   fetch-outside a = rw a
 
-  pub fetch-illegal : accessible (length program) address 4 ≡ true → readOf (number (byteOf program) address 4) ≡ illegal → noInstruction 1 ≡ fetchAt program address
+  pub fetch-illegal : hasWord program address ≡ true → readOf (wordAt program address) ≡ illegal → noInstruction 1 ≡ fetchAt program address
   unfolding fetchAt
   fetch-illegal a r = rw (a, r)
 
-  pub fetch-legal : accessible (length program) address 4 ≡ true → (i : Instruction) → readOf (number (byteOf program) address 4) ≡ legal i
-      → fetchNumbers (Found i) ≡ fetchAt program address
+  pub fetch-legal : hasWord program address ≡ true → (i : Instruction) → readOf (wordAt program address) ≡ legal i → fetchNumbers (Found i) ≡ fetchAt program address
   unfolding fetchAt
   fetch-legal a i r = rw (a, r)
 
@@ -49,7 +45,7 @@ small-at false w e = impossible e
 -- what is fetched names an operation and registers
 pub fetched-small : (program : List ℕ) (address : ℕ) → fetchAt program address .found ≡ true → Small (fetchAt program address .fields)
 unfolding fetchAt
-fetched-small program address e = small-at (accessible (length program) address 4) (number (byteOf program) address 4) e
+fetched-small program address e = small-at (hasWord program address) (wordAt program address) e
 
 pub found-small : (program : List ℕ) (address : ℕ) (i : Instruction) → fetchNumbers (Found i) ≡ fetchAt program address → Small i
 found-small program address i e =
@@ -62,7 +58,7 @@ accepted-at false w e = impossible e
 
 pub fetched-accepted : (program : List ℕ) (address : ℕ) → fetchAt program address .found ≡ true → Accepted (fetchAt program address .fields)
 unfolding fetchAt
-fetched-accepted program address e = accepted-at (accessible (length program) address 4) (number (byteOf program) address 4) e
+fetched-accepted program address e = accepted-at (hasWord program address) (wordAt program address) e
 
 -- where there is none: cause 1 or 4, and no fields
 pub record Missing (f : FetchNumbers) : Type 0 where
@@ -80,10 +76,4 @@ missing-at false w e = record { fields = refl; cause = refl }
 
 pub fetched-missing : (program : List ℕ) (address : ℕ) → fetchAt program address .found ≡ false → Missing (fetchAt program address)
 unfolding fetchAt
-fetched-missing program address e = missing-at (accessible (length program) address 4) (number (byteOf program) address 4) e
-
--- where there is no instruction there is a cause
-pub unfound-cause : (program : List ℕ) (address cause : ℕ) → noInstruction cause ≡ fetchAt program address → cause ≡ 0 → ⊥
-unfound-cause program address cause e z =
-    let missing = fetched-missing program address (sym (ap (λ (f : FetchNumbers). f .found) e)) in
-    impossible (subst (λ (n : ℕ). eqb n 1 || eqb n 4 ≡ true) (sym (ap (λ (f : FetchNumbers). f .cause) e) ∙ z) (missing .cause))
+fetched-missing program address e = missing-at (hasWord program address) (wordAt program address) e

@@ -27,6 +27,13 @@ fetchNumbers (Stopped stop) = noInstruction (stop .cause)
 abbrev pub ofReading : Numbers → FetchNumbers
 ofReading n = record { found = eqb (n .cause) 0; cause = n .cause; fields = n .fields }
 
+-- the word at an address of the program
+abbrev pub hasWord : List ℕ → ℕ → Bool
+hasWord program address = accessible (length program) address 4
+
+abbrev pub wordAt : List ℕ → ℕ → ℕ
+wordAt program address = number (byteOf program) address 4
+
 -- cause 4: "fetch address outside the program or not a multiple of 4"; cause 1: illegal
 unfoldable pub fetchAt : List ℕ → ℕ → FetchNumbers
-fetchAt program address = choose (accessible (length program) address 4) (ofReading (readOf (number (byteOf program) address 4))) (noInstruction 4)
+fetchAt program address = choose (hasWord program address) (ofReading (readOf (wordAt program address))) (noInstruction 4)

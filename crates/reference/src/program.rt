@@ -1,18 +1,34 @@
 ghost use mathlib.Core.Path.{_≡_};
-ghost use Rattle.reference.specs.Fetch.{fetchNumbers, fetchAt};
+ghost use mathlib.Core.Bool.{true};
+ghost use Rattle.reference.specs.Fetch.{fetchNumbers, hasWord, wordAt, fetchAt};
 use crate::Fetching;
 use execution::Stop;
 use execution::memory;
 use isa::Reading;
 
+// Inner, for fetch and for decode: whether the program has a word at this address.
+pub fn has_word(program: &[u8], address: u32) -> bool
+    ensures { λ r. ⌜ r ≡ hasWord (now (program .entry)) address ⌝ }
+{
+    memory::accessible(program.len(), address, 4)
+}
+
+// Inner, for fetch and for decode: the word at an address that has one.
+pub fn word_at(program: &[u8], address: u32) -> u32
+    requires { ⌜ hasWord (now program) address ≡ true ⌝ }
+    ensures { λ r. ⌜ r ≡ wordAt (now (program .entry)) address ⌝ }
+{
+    word::load(program, address as usize, 4)
+}
+
 // The instruction at an address, or a stop: 4 outside the program or not a multiple of 4, 1 illegal.
 pub fn fetch(program: &[u8], address: u32) -> Fetching
     ensures { λ r. ⌜ fetchNumbers r ≡ fetchAt (now (program .entry)) address ⌝ }
 {
-    if !memory::accessible(program.len(), address, 4) {
+    if !has_word(program, address) {
         return Fetching::Stopped(Stop { cause: 4 });
     }
-    let word = word::load(program, address as usize, 4);
+    let word = word_at(program, address);
     let Reading::Legal(i) = isa::read(word) else {
         return Fetching::Stopped(Stop { cause: 1 });
     };

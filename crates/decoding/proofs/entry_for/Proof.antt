@@ -1,8 +1,13 @@
-use mathlib.Core.Path.{sym, ap, _∙_}
+use Prim.Native.Nat.{ℕ}
+use mathlib.Core.Path.{_≡_, sym, ap, _∙_}
+use mathlib.Core.Bool.{true}
+use mathlib.Core.List.{List}
+use native.Mathlib.Omega.{arith}
+use borrow.Author.Tests.{not-true, not-false}
 use denote.Ref.{now}
-use Rattle.reference.specs.Fetch.{FetchNumbers, fetchNumbers, fetchAt}
-use Rattle.reference.proofs.FetchLaws.{found-small, unfound-cause}
-use Rattle.isa.specs.Reads.{none}
+use Rattle.isa.specs.Reads.{numbersOf, readOf}
+use Rattle.reference.specs.Fetch.{hasWord, wordAt, fetchAt}
+use Rattle.reference.proofs.FetchLaws.{fetch-outside, fetch-illegal, fetch-legal, found-small}
 use Rattle.core.specs.declared.Core.{Core}
 use Rattle.decoding.specs.Decode.{endedEntry}
 use Rattle.decoding.specs.Seen.{seen}
@@ -11,72 +16,107 @@ use borrow.Author.Needs.{needs}
 use Rattle.decoding.proofs.entry_for.Statement.{statement}
 use Rattle.decoding.proofs.entry_for.Tie as tie
 
-fetch-requires : tie.Need-fetch-requires
-fetch-requires c κs = search needs
+-- what decode looks at
+module _ (s : tie.Start) where
+  abbrev program : List ℕ
+  program = now (s .args .program)
 
-cause-of-requires : tie.Need-cause-of-requires
-cause-of-requires c κs = search needs
+  abbrev address : ℕ
+  address = s .args .address
 
-enum-known-fetched : tie.Need-enum-known-fetched
-enum-known-fetched c = search needs
+  abbrev m : Core
+  m = seen (now (s .args .mapname)) (now (s .args .mapregister)) (now (s .args .mapvalid)) (s .args .head) (s .args .address)
+
+-- what the word there reads as
+module _ (p : tie.After-read) where
+  abbrev start : tie.Start
+  start = p .before .before .before .before .before
+
+  there : hasWord (program start) (address start) ≡ true
+  there = sym (p .before .before .before .has-word .ensures) ∙ not-false _ (p .before .before .if1 .left)
+
+  reads : readOf (wordAt (program start) (address start)) ≡ numbersOf (p .read .result)
+  reads = ap readOf (sym (p .before .word-at .ensures)) ∙ sym (p .read .ensures)
+
+has-word-requires : tie.Need-has-word-requires
+has-word-requires c κs = search needs
+
+without-instruction-requires : tie.Need-without-instruction-requires
+without-instruction-requires c κs = search needs
+
+returns : tie.Need-returns
+returns c =
+    let s = (c .before .before .before .before) in
+    let outside = fetch-outside (program s) (address s) (sym ((c .before .before) .has-word .ensures) ∙ not-true _ ((c .before) .if1 .taken)) in
+    c .without-instruction .ensures ∙ entry-none (m s) (fetchAt (program s) (address s)) (s .args .guess) 4 outside (λ z. omega arith)
+
+word-at-requires : tie.Need-word-at-requires
+word-at-requires c κs = sym ((c .before) .has-word .ensures) ∙ not-false _ (c .if1 .left)
+
+read-requires : tie.Need-read-requires
+read-requires c κs = search needs
+
+enum-known-i : tie.Need-enum-known-i
+enum-known-i c = search needs
 
 enum-told : tie.Need-enum-told
 enum-told c = search needs
 
-ended-requires : tie.Need-ended-requires
-ended-requires c κs = search needs
-
-returns : tie.Need-returns
-returns c =
-    let a = (c .before .before .before .before .before .before) .args in
-    let program = now (a .program) in
-    let m : Core = seen (now (a .mapname)) (now (a .mapregister)) (now (a .mapvalid)) (a .head) (a .address) in
-    let told = ap fetchNumbers ((c .before) .enum-told .given .1) in
-    let e = sym told ∙ (c .before .before .before .before) .fetch .ensures in
-    let cause = (c .before .before .before) .cause-of .ensures ∙ ap (λ (f : FetchNumbers). f .cause) told in
-    c .ended .ensures ∙ ap (endedEntry (a .address) none) cause ∙ entry-none m (fetchAt program (a .address)) (a .guess) _ e (unfound-cause program (a .address) _ e)
-
-cause-at-once-requires : tie.Need-cause-at-once-requires
-cause-at-once-requires c κs =
-    let a = (c .before .before .before .before .before .before) .args in
-    found-small (now (a .program)) (a .address) _ (sym (ap fetchNumbers ((c .before) .fetched .given .1)) ∙ (c .before .before .before .before) .fetch .ensures) .operation
-
-ended-requires-2 : tie.Need-ended-requires-2
-ended-requires-2 c κs = search needs
+without-instruction-requires-2 : tie.Need-without-instruction-requires-2
+without-instruction-requires-2 c κs = search needs
 
 returns-2 : tie.Need-returns-2
 returns-2 c =
-    let a = (c .before .before .before .before .before .before .before .before .before) .args in
-    let m : Core = seen (now (a .mapname)) (now (a .mapregister)) (now (a .mapvalid)) (a .head) (a .address) in
-    let e = sym (ap fetchNumbers ((c .before .before .before .before) .fetched .given .1)) ∙ (c .before .before .before .before .before .before .before) .fetch .ensures in
-    let once = (c .before .before) .cause-at-once .ensures in
-    c .ended2 .ensures ∙ ap (endedEntry (a .address) _) once ∙ entry-at-once m (fetchAt (now (a .program)) (a .address)) (a .guess) _ e (λ z. (c .before) .if1 .taken (once ∙ z))
+    let p = (c .before .before .before) in
+    let s = start p in
+    let nothing = fetch-illegal (program s) (address s) (there p) (reads p ∙ ap numbersOf ((c .before) .enum-told .given .1)) in
+    c .without-instruction2 .ensures ∙ entry-none (m s) (fetchAt (program s) (address s)) (s .args .guess) 1 nothing (λ z. omega arith)
 
-started-requires : tie.Need-started-requires
-started-requires c κs =
-    let s = (c .before .before .before .before .before .before .before .before) in
-    let a = s .args in
-    (found-small (now (a .program)) (a .address) _ (sym (ap fetchNumbers ((c .before .before .before) .fetched .given .1)) ∙ (c .before .before .before .before .before .before) .fetch .ensures) .operation, s .pre .0, s .pre .1, s .pre .2)
+cause-at-once-requires : tie.Need-cause-at-once-requires
+cause-at-once-requires c κs =
+    let p = (c .before .before .before) in
+    found-small (program (start p)) (address (start p)) _ (fetch-legal (program (start p)) (address (start p)) (there p) _ (reads p ∙ ap numbersOf ((c .before) .i .given .1))) .operation
+
+ended-requires : tie.Need-ended-requires
+ended-requires c κs = search needs
 
 returns-3 : tie.Need-returns-3
 returns-3 c =
-    let a = (c .before .before .before .before .before .before .before .before .before) .args in
-    let m : Core = seen (now (a .mapname)) (now (a .mapregister)) (now (a .mapvalid)) (a .head) (a .address) in
-    let e = sym (ap fetchNumbers ((c .before .before .before .before) .fetched .given .1)) ∙ (c .before .before .before .before .before .before .before) .fetch .ensures in
-    c .started .ensures ∙ entry-waits m (fetchAt (now (a .program)) (a .address)) (a .guess) _ e (sym ((c .before .before) .cause-at-once .ensures) ∙ (c .before) .if1 .left)
+    let p = (c .before .before .before .before .before .before) in
+    let s = start p in
+    let found = fetch-legal (program s) (address s) (there p) _ (reads p ∙ ap numbersOf ((c .before .before .before .before) .i .given .1)) in
+    let once = (c .before .before) .cause-at-once .ensures in
+    c .ended .ensures ∙ ap (endedEntry (address s) _) once ∙ entry-at-once (m s) (fetchAt (program s) (address s)) (s .args .guess) _ found (λ z. (c .before) .if2 .taken (once ∙ z))
+
+started-requires : tie.Need-started-requires
+started-requires c κs =
+    let p = (c .before .before .before .before .before) in
+    let s = start p in
+    let found = fetch-legal (program s) (address s) (there p) _ (reads p ∙ ap numbersOf ((c .before .before .before) .i .given .1)) in
+    (found-small (program s) (address s) _ found .operation, s .pre .0, s .pre .1, s .pre .2)
+
+returns-4 : tie.Need-returns-4
+returns-4 c =
+    let p = (c .before .before .before .before .before .before) in
+    let s = start p in
+    let found = fetch-legal (program s) (address s) (there p) _ (reads p ∙ ap numbersOf ((c .before .before .before .before) .i .given .1)) in
+    c .started .ensures ∙ entry-waits (m s) (fetchAt (program s) (address s)) (s .args .guess) _ found (sym ((c .before .before) .cause-at-once .ensures) ∙ (c .before) .if2 .left)
 
 pub entry-for-spec : {M : Type 1} → statement M
 entry-for-spec =
     tie.close
     (tie.spec
-    fetch-requires
-    cause-of-requires
-    enum-known-fetched
-    enum-told
-    ended-requires
+    has-word-requires
+    without-instruction-requires
     returns
-    cause-at-once-requires
-    ended-requires-2
+    word-at-requires
+    read-requires
+    enum-known-i
+    enum-told
+    without-instruction-requires-2
     returns-2
+    cause-at-once-requires
+    ended-requires
+    returns-3
     started-requires
-    returns-3)
+    returns-4)
