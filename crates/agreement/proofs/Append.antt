@@ -7,7 +7,7 @@ use lib.ListN.{length, getD, set, length-map}
 use Rattle.reference.specs.Fetch.{fetchAt}
 use Rattle.reference.specs.Step.{State, destination, readRegister, stepOf}
 use Rattle.tables.specs.declared.Entry.{Entry}
-use Rattle.decoding.specs.Decode.{enteringCause}
+use Rattle.decoding.specs.Decode.{enteringStop}
 use Rattle.agreement.proofs.View.{View, append}
 use Rattle.agreement.proofs.Ghost.{Ghost}
 use Rattle.agreement.proofs.Chains.{executionOf, Status, waits, stops, Executes, lastState}
@@ -42,7 +42,7 @@ module _ (p : List ℕ) (s : State) (c : View) (invariant : Invariant p s c) (x 
   entering-status : Status p t (executionOf x)
   entering-status =
       let at : c .fetch ≡ t .address = invariant .fetching in
-      elim (eq? (enteringCause (fetchAt p (c .fetch))) 0) [
+      elim (eq? (enteringStop (fetchAt p (c .fetch)) .cause) 0) [
         | equal q u ↦ waits (enters .waits q .0) (enters .waits q .1) (rw (← at) q)
         | apart q u ↦ stops (enters .stops q .0) (rw (enters .stops q .1) q) (step-ended p t (rw (← at) q) ∙ rw (← at) (sym (enters .stops q .1)))
       ]

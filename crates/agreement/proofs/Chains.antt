@@ -11,7 +11,7 @@ use Rattle.execution.specs.declared.Stop.{Stop}
 use Rattle.tables.specs.declared.State.{State as Stage}
 use Rattle.tables.specs.declared.State.the-variants.{Waits, Issued, Completed}
 use Rattle.tables.specs.declared.Entry.{Entry}
-use Rattle.decoding.specs.Decode.{enteringCause}
+use Rattle.decoding.specs.Decode.{enteringStop}
 use Rattle.agreement.proofs.View.{nameIn}
 use Rattle.agreement.proofs.Ghost.{Ghost}
 
@@ -85,7 +85,7 @@ executionOf e =
 
 -- the entry's instruction is executed, and does not stop on entering
 abbrev pub Executable : List ℕ → State → Type 0
-Executable program s = enteringCause (fetchAt program (s .address)) ≡ 0
+Executable program s = enteringStop (fetchAt program (s .address)) .cause ≡ 0
 
 -- what each state says, s being the in-order state before the entry
 pub data Status (program : List ℕ) (s : State) (e : Execution) : Type 0 where

@@ -15,7 +15,7 @@ use Rattle.reference.specs.Step.{State, firstSource, secondSource, destination}
 use Rattle.tables.specs.declared.Operand.the-variants.{Zero}
 use Rattle.tables.specs.declared.State.the-variants.{Waits}
 use Rattle.tables.specs.declared.Entry.{Entry}
-use Rattle.decoding.specs.Decode.{enteringCause, endedEntry}
+use Rattle.decoding.specs.Decode.{enteringStop, endedEntry}
 use Rattle.agreement.proofs.View.{View, operandFor, append}
 use Rattle.agreement.proofs.Invariant.{Invariant}
 use Rattle.agreement.proofs.Tests.{equal, apart, eq?}
@@ -28,8 +28,8 @@ operand-zero : (register : ℕ) → operandFor 0 register ≡ Zero
 unfolding operandFor
 operand-zero register = refl
 
-pub ended-enters : (p : List ℕ) (s : State) (c : View) → Invariant p s c → enteringCause (fetchAt p (c .fetch)) ≢ 0
-    → Enters p c (endedEntry (c .fetch) (fetchAt p (c .fetch) .fields) (enteringCause (fetchAt p (c .fetch))))
+pub ended-enters : (p : List ℕ) (s : State) (c : View) → Invariant p s c → enteringStop (fetchAt p (c .fetch)) .cause ≢ 0
+    → Enters p c (endedEntry (c .fetch) (fetchAt p (c .fetch) .fields) (enteringStop (fetchAt p (c .fetch))))
 ended-enters p s c invariant z =
     let u : Unnamed (fetchAt p (c .fetch) .fields) = entering-unnamed p (c .fetch) z in
     let n : getD (c .names) 0 0 ≡ 0 = zero-named (invariant .ghost) (invariant .committed) c (invariant .accounting) in
@@ -65,7 +65,7 @@ startedIn c i guess =
       stop = stop 0;
     }
 
-pub started-enters : (p : List ℕ) (c : View) (guess : ℕ) → enteringCause (fetchAt p (c .fetch)) ≡ 0 → Enters p c (startedIn c (fetchAt p (c .fetch) .fields) guess)
+pub started-enters : (p : List ℕ) (c : View) (guess : ℕ) → enteringStop (fetchAt p (c .fetch)) .cause ≡ 0 → Enters p c (startedIn c (fetchAt p (c .fetch) .fields) guess)
 started-enters p c guess z =
     record {
       instruction = refl;
@@ -81,10 +81,10 @@ started-enters p c guess z =
     }
 
 abbrev pub entryIn : View → FetchNumbers → ℕ → Entry
-entryIn c f guess = choose (eqb (enteringCause f) 0) (startedIn c (f .fields) guess) (endedEntry (c .fetch) (f .fields) (enteringCause f))
+entryIn c f guess = choose (eqb (enteringStop f .cause) 0) (startedIn c (f .fields) guess) (endedEntry (c .fetch) (f .fields) (enteringStop f))
 
 pub entry-enters : (p : List ℕ) (s : State) (c : View) (guess : ℕ) → Invariant p s c → Enters p c (entryIn c (fetchAt p (c .fetch)) guess)
-entry-enters p s c guess invariant = elim (eq? (enteringCause (fetchAt p (c .fetch))) 0) [
+entry-enters p s c guess invariant = elim (eq? (enteringStop (fetchAt p (c .fetch)) .cause) 0) [
   | equal e t ↦ rw t (started-enters p c guess e)
   | apart e t ↦ rw t (ended-enters p s c invariant e)
 ]

@@ -21,7 +21,7 @@ use Rattle.tables.specs.declared.State.the-variants.{Waits}
 use Rattle.tables.specs.declared.Entry.{Entry}
 use Rattle.tables.proofs.TableLaws.{look-zero}
 use Rattle.core.specs.Changes.{entryAt}
-use Rattle.decoding.specs.Decode.{enteringCause, endedEntry, operandOn, nameFor, startedEntry, entryFor, decoded}
+use Rattle.decoding.specs.Decode.{enteringStop, endedEntry, operandOn, nameFor, startedEntry, entryFor, decoded}
 use Rattle.issuing.specs.Issue.{storeBelow, issued}
 use Rattle.core.specs.declared.Core.{Core}
 use Rattle.agreement.proofs.View.{View, viewOf, operandFor, placed, append}
@@ -79,7 +79,7 @@ module _ (program : List ℕ) (s : State) (m : Core) (k : Kept m) (invariant : I
   entry-seen : (guess : ℕ) → entryFor m (fetchAt program (m .fetch)) guess ≡ entryIn (viewOf m) (fetchAt program (m .fetch)) guess
   entry-seen guess =
       let f : FetchNumbers = fetchAt program (m .fetch) in
-      ap (λ (e : Entry). choose (eqb (enteringCause f) 0) e (endedEntry (m .fetch) (f .fields) (enteringCause f))) (started-seen (f .fields) guess (fetched-named program (m .fetch)))
+      ap (λ (e : Entry). choose (eqb (enteringStop f .cause) 0) e (endedEntry (m .fetch) (f .fields) (enteringStop f))) (started-seen (f .fields) guess (fetched-named program (m .fetch)))
 
   pub decode-core-keeps : (guess : ℕ) → m .count < m .setup .window → Invariant program s (viewOf (decoded program guess m))
   decode-core-keeps guess h =

@@ -7,12 +7,11 @@ use native.Mathlib.Omega.{arith}
 use lib.ListN.{length, getD, set, length-set, length-append}
 use lib.Seq.{getD-set-other, getD-set-same}
 use Rattle.reference.specs.Fetch.{fetchAt}
-use Rattle.execution.specs.Execute.{stop}
 use Rattle.reference.specs.Step.{firstSource, secondSource, destination}
 use Rattle.tables.specs.FreeList.{occurrences}
 use Rattle.tables.specs.declared.State.the-variants.{Waits, Completed}
 use Rattle.tables.specs.declared.Entry.{Entry}
-use Rattle.decoding.specs.Decode.{enteringCause}
+use Rattle.decoding.specs.Decode.{enteringStop}
 use Rattle.agreement.proofs.View.{View, operandFor, nameIn, append}
 use Rattle.agreement.proofs.Ghost.{Ghost}
 use Rattle.agreement.proofs.Chains.{renamingOf, Renamed, lastNames}
@@ -40,8 +39,8 @@ pub record Enters (program : List ℕ) (c : View) (x : Entry) : Type 0 where
   pub unnamed : x .destination ≡ 0 → x .name ≡ 0
   pub named : x .destination ≢ 0 → x .name ≡ c .namehead
   pub previous : x .previous ≡ getD (c .names) (x .destination) 0
-  pub waits : enteringCause (fetchAt program (c .fetch)) ≡ 0 → (x .state ≡ Waits) × (x .stop .cause ≡ 0)
-  pub stops : enteringCause (fetchAt program (c .fetch)) ≢ 0 → (x .state ≡ Completed) × (x .stop ≡ stop (enteringCause (fetchAt program (c .fetch))))
+  pub waits : enteringStop (fetchAt program (c .fetch)) .cause ≡ 0 → (x .state ≡ Waits) × (x .stop .cause ≡ 0)
+  pub stops : enteringStop (fetchAt program (c .fetch)) .cause ≢ 0 → (x .state ≡ Completed) × (x .stop ≡ enteringStop (fetchAt program (c .fetch)))
 
 -- the general map shows no name for register 0
 pub zero-named : (g : Ghost) (m : List ℕ) (c : View) → Accounting g m c → getD (c .names) 0 0 ≡ 0
@@ -63,7 +62,7 @@ module _ (g : Ghost) (m : List ℕ) (c : View) (accounting : Accounting g m c) (
   shown-new = rw (enters .left, enters .right) (shown-operands (c .physical) (c .names) (c .registers) (firstSource (x .instruction)) (secondSource (x .instruction)) (accounting .general))
 
   holds-new : getD (c .physical) (x .name) 0 ≡ 0 → HoldsIn (c .physical) x
-  holds-new z = elim (eq? (enteringCause (fetchAt p (c .fetch))) 0) [
+  holds-new z = elim (eq? (enteringStop (fetchAt p (c .fetch)) .cause) 0) [
     | equal q t ↦ let w = enters .waits q .0 in early (λ y. impossible (cc)) z
     | apart q t ↦ stopped (enters .stops q .0) (rw (enters .stops q .1) q) z
   ]

@@ -15,7 +15,7 @@ use Rattle.tables.specs.declared.State.the-variants.{Waits, Issued, Completed}
 use Rattle.tables.specs.declared.Entry.{Entry}
 use Rattle.core.specs.Changes.{entryAt, place}
 use Rattle.core.specs.Drop.{dropYoungest, dropMany, dropTo}
-use Rattle.decoding.specs.Decode.{enteringCause, startedEntry, endedEntry, enter, decoded}
+use Rattle.decoding.specs.Decode.{enteringStop, startedEntry, endedEntry, enter, decoded}
 use Rattle.issuing.specs.Issue.{issued}
 use Rattle.completing.specs.Complete.{outcomeAt, noneFree, registerFor, suppliedFor, learned, registered, refetched, redirected, completed}
 use Rattle.stealing.specs.Steal.{victimOf, robbed}
@@ -155,5 +155,5 @@ pub decoded-at : (program : List ℕ) (guess : ℕ) (m : Core) → 0 < length (m
 decoded-at program guess m room r z =
     let f : FetchNumbers = fetchAt program (m .fetch) in
     let started : Entry = startedEntry m (f .fields) guess in
-    let over : Entry = endedEntry (m .fetch) (f .fields) (enteringCause f) in
-    by-choice (λ (e : Entry). Entered (enter e m)) (eqb (enteringCause f) 0) started over (λ x. waiting (entered-at started m Waits room r z refl)) (λ x. ended (entered-at over m Completed room r z refl))
+    let over : Entry = endedEntry (m .fetch) (f .fields) (enteringStop f) in
+    by-choice (λ (e : Entry). Entered (enter e m)) (eqb (enteringStop f .cause) 0) started over (λ x. waiting (entered-at started m Waits room r z refl)) (λ x. ended (entered-at over m Completed room r z refl))

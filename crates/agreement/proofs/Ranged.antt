@@ -18,7 +18,7 @@ use Rattle.isa.proofs.Accepted.{accepted-holds}
 use Rattle.execution.specs.Execute.{stop, executed}
 use Rattle.reference.specs.Fetch.{FetchNumbers, fetchAt}
 use Rattle.execution.specs.Memory.{stored, storeEndsWithin}
-use Rattle.execution.specs.Roles.{causeAtOnce}
+use Rattle.execution.specs.Roles.{stopAtOnce}
 use Rattle.reference.specs.Step.{State, Step, firstSource, secondSource, firstOf, secondOf, reached, stoppedAt, settled, destination, writeRegister, stepWith, stepOf}
 use Rattle.execution.specs.declared.Stop.{Stop}
 use Rattle.execution.specs.declared.Outcome.{Outcome}
@@ -32,7 +32,7 @@ use Rattle.tables.specs.declared.State.the-variants.{Completed}
 use Rattle.tables.specs.declared.Entry.{Entry}
 use Rattle.ranges.specs.Sizes.{setupInRange}
 use Rattle.ranges.specs.Entries.{operandInRange, isNone}
-use Rattle.decoding.specs.Decode.{enteringCause}
+use Rattle.decoding.specs.Decode.{enteringStop}
 use Rattle.agreement.proofs.View.{View, operandFor, nameIn}
 use Rattle.agreement.proofs.Ghost.{Ghost}
 use Rattle.agreement.proofs.Chains.{renamingOf, Renamed, lastNames, executionOf, Status, waits, reads, done, stops, Executes}
@@ -177,7 +177,7 @@ pub step-cause : (program : List ℕ) (s : State) → stepOf program s .stop .ca
 unfolding stepOf
 step-cause program s =
     let f : FetchNumbers = fetchAt program (s .address) in
-    by-choice (λ (x : Step). x .stop .cause ≤ 7) (f .found) (stepWith (f .fields) s) (stoppedAt s (stop (f .cause))) (λ e. with-cause (f .fields) s) (λ e. four (f .cause) (fetched-missing program (s .address) e .cause) .0)
+    by-choice (λ (x : Step). x .stop .cause ≤ 7) (f .found) (stepWith (f .fields) s) (stoppedAt s (f .stop)) (λ e. with-cause (f .fields) s) (λ e. four (f .stop .cause) (fetched-missing program (s .address) e .cause) .0)
 
 settled-calm : (s : State) (i : Instruction) (memory : List ℕ) (o : Outcome) → settled s i memory o .stop .cause ≡ 0 → o .stop .cause ≡ 0
 settled-calm s i memory o = at (eqb (o .stop .cause) 0) refl
@@ -193,22 +193,22 @@ with-ends i s e =
     executed-ends (length (s .memory)) i (s .address) (firstOf s i) (secondOf s i) (settled-calm s i (stored i (firstOf s i) (secondOf s i) (s .memory)) (outcomeIn s i) e)
 
 -- without an instruction nothing is executed
-missing-cause : (program : List ℕ) (a : ℕ) → fetchAt program a .found ≡ false → enteringCause (fetchAt program a) ≡ 0 → ⊥
+missing-cause : (program : List ℕ) (a : ℕ) → fetchAt program a .found ≡ false → enteringStop (fetchAt program a) .cause ≡ 0 → ⊥
 missing-cause program a e z =
-    four (fetchAt program a .cause) (fetched-missing program a e .cause) .1 (sym (ap (λ (b : Bool). choose b (causeAtOnce (fetchAt program a .fields)) (fetchAt program a .cause)) e) ∙ z)
+    four (fetchAt program a .stop .cause) (fetched-missing program a e .cause) .1 (sym (ap (λ (b : Bool). choose b (stopAtOnce (fetchAt program a .fields)) (fetchAt program a .stop) .cause) e) ∙ z)
 
-missing-step : (program : List ℕ) (s : State) → fetchAt program (s .address) .found ≡ false → stepOf program s .stop .cause ≡ fetchAt program (s .address) .cause
+missing-step : (program : List ℕ) (s : State) → fetchAt program (s .address) .found ≡ false → stepOf program s .stop .cause ≡ fetchAt program (s .address) .stop .cause
 unfolding stepOf
 missing-step program s e =
     let f : FetchNumbers = fetchAt program (s .address) in
-    ap (λ (b : Bool). let x : Step = choose b (stepWith (f .fields) s) (stoppedAt s (stop (f .cause))) in x .stop .cause) e
+    ap (λ (b : Bool). let x : Step = choose b (stepWith (f .fields) s) (stoppedAt s (f .stop)) in x .stop .cause) e
 
 -- what an entry's state says
 record Stated (p : List ℕ) (s : State) (e : Entry) (bytes : ℕ) : Type 0 where
   cause : e .stop .cause ≤ 7
   caused : e .state ≢ Completed → e .stop .cause ≡ 0
   ends : e .state ≡ Completed → e .stop .cause ≡ 0 → storeEndsWithin bytes (e .instruction) (e .first) ≡ true
-  none : fetchAt p (s .address) .found ≡ false → (e .state ≡ Completed) × (e .stop .cause ≡ fetchAt p (s .address) .cause)
+  none : fetchAt p (s .address) .found ≡ false → (e .state ≡ Completed) × (e .stop .cause ≡ fetchAt p (s .address) .stop .cause)
 
 module _ (p : List ℕ) (g : Ghost) (s : State) (e : Entry) (bytes : ℕ) (sized : length (s .memory) ≡ bytes) (executes : Executes p g s (executionOf e)) where
   stated : Status p s (executionOf e) → Stated p s e bytes

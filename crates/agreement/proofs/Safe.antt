@@ -61,7 +61,7 @@ pub step-zero : (program : List ℕ) (s : State) → getD (s .registers) 0 0 ≡
 unfolding stepOf
 step-zero program s z =
     let f : FetchNumbers = fetchAt program (s .address) in
-    by-choice (λ (x : Step). getD (x .state .registers) 0 0 ≡ 0) (f .found) (stepWith (f .fields) s) (stoppedAt s (stop (f .cause))) (λ e. statement .zero-kept (f .fields) s ∙ z) (λ e. z)
+    by-choice (λ (x : Step). getD (x .state .registers) 0 0 ≡ 0) (f .found) (stepWith (f .fields) s) (stoppedAt s (f .stop)) (λ e. statement .zero-kept (f .fields) s ∙ z) (λ e. z)
 
 module _ (program : List ℕ) (start : State) (n : ℕ) (w : World) (f : Fit program w) where
   abbrev m : Core

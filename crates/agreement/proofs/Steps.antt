@@ -17,20 +17,20 @@ use Rattle.isa.proofs.ReadLaws.{legal-word, operation-kept}
 use Rattle.execution.specs.Actions.{Action, Computes, LoadsSigned, LoadsUnsigned, Stores, Stops, actionOf}
 use Rattle.execution.specs.Memory.{accessible, secondBy, secondValue, storedBy, stored}
 use Rattle.execution.specs.Execute.{stop, executedBy, executed}
-use Rattle.execution.specs.Roles.{loadsBy, loads, storesBy, stores, causeBy, causeAtOnce}
-use Rattle.reference.specs.Fetch.{FetchNumbers, noInstruction, ofReading, fetchAt}
+use Rattle.execution.specs.Roles.{loadsBy, loads, storesBy, stores, stopBy, stopAtOnce}
+use Rattle.reference.specs.Fetch.{FetchNumbers, noInstruction, ofReading, outside, fetchAt}
 use Rattle.reference.specs.Step.{State, Step, firstSource, secondSource, destination, readRegister, writeRegister, reached, stoppedAt, settled, firstOf, secondOf, stepWith, stepOf}
 use Rattle.execution.specs.declared.Stop.{Stop}
 use Rattle.execution.specs.declared.Outcome.{Outcome}
 use Rattle.reference.proofs.StepLaws.{choose-either, step-registers}
 use Rattle.reference.proofs.Laws.{statement}
-use Rattle.decoding.specs.Decode.{enteringCause}
+use Rattle.decoding.specs.Decode.{enteringStop}
 use Rattle.agreement.proofs.Tests.{equal, apart, eq?, impossible}
 
 -- a fetch: an instruction and no cause, or a cause and no instruction
 pub data Fetched (f : FetchNumbers) : Type 0 where
-  found : f .found ≡ true → f .cause ≡ 0 → Fetched f
-  nothing : f .found ≡ false → f .cause ≢ 0 → f .fields ≡ none → Fetched f
+  found : f .found ≡ true → f .stop .cause ≡ 0 → Fetched f
+  nothing : f .found ≡ false → f .stop .cause ≢ 0 → f .fields ≡ none → Fetched f
 
 as-fetched : (operation w : ℕ) → Fetched (ofReading (readAs operation w))
 as-fetched zero w = nothing refl (λ e. absurd (omega arith)) refl
@@ -40,7 +40,7 @@ read-fetched : (w : ℕ) → Fetched (ofReading (readOf w))
 unfolding readOf
 read-fetched w = as-fetched (operationOf w) w
 
-choose-fetched : (b : Bool) (w : ℕ) → Fetched (choose b (ofReading (readOf w)) (noInstruction 4))
+choose-fetched : (b : Bool) (w : ℕ) → Fetched (choose b (ofReading (readOf w)) (noInstruction outside))
 choose-fetched true w = read-fetched w
 choose-fetched false w = nothing refl (λ e. absurd (omega arith)) refl
 
@@ -84,10 +84,10 @@ isWhole Shift = false
 isWhole Whole = true
 
 abbrev wholeWhereStops : ℕ → ℕ → Bool
-wholeWhereStops operation n = choose (eqb (causeBy (actionOf operation)) 0) true (isWhole (formatOf operation))
+wholeWhereStops operation n = choose (eqb (stopBy (actionOf operation) .cause) 0) true (isWhole (formatOf operation))
 
 whole-at : (operation : ℕ) → operation ≤ last → T (wholeWhereStops operation (getD (replicate (suc last) 0) operation 0))
-unfolding causeBy
+unfolding stopBy
 whole-at operation h = at wholeWhereStops (replicate (suc last) 0) tt operation (omega arith)
 
 is-whole : (F : Format) → T (isWhole F) → F ≡ Whole
@@ -100,30 +100,30 @@ is-whole J t = absurd t
 is-whole Shift t = absurd t
 is-whole Whole t = refl
 
-format-whole : (operation : ℕ) → operation ≤ last → causeBy (actionOf operation) ≢ 0 → formatOf operation ≡ Whole
+format-whole : (operation : ℕ) → operation ≤ last → stopBy (actionOf operation) .cause ≢ 0 → formatOf operation ≡ Whole
 format-whole operation h z = is-whole (formatOf operation) (rw (ne-eqb _ 0 z) at (whole-at operation h))
 
-read-unnamed : (w : ℕ) (i : Instruction) → readOf w ≡ legal i → causeAtOnce i ≢ 0 → Unnamed i
+read-unnamed : (w : ℕ) (i : Instruction) → readOf w ≡ legal i → stopAtOnce i .cause ≢ 0 → Unnamed i
 read-unnamed w i e z =
     let l = legal-word w i e in
     let o : i .operation ≡ l .operation = ap (λ (x : Instruction). x .operation) (l .is) ∙ operation-kept (formatOf (l .operation)) (l .operation) w in
-    let f : formatOf (l .operation) ≡ Whole = format-whole (l .operation) (l .last) (λ q. z (ap (λ (x : ℕ). causeBy (actionOf x)) o ∙ q)) in
+    let f : formatOf (l .operation) ≡ Whole = format-whole (l .operation) (l .last) (λ q. z (ap (λ (x : ℕ). stopBy (actionOf x) .cause) o ∙ q)) in
     rw (l .is, f) (whole-unnamed (l .operation) w)
 
-choose-unnamed : (b : Bool) (w : ℕ) → enteringCause (choose b (ofReading (readOf w)) (noInstruction 4)) ≢ 0 → Unnamed (choose b (ofReading (readOf w)) (noInstruction 4) .fields)
+choose-unnamed : (b : Bool) (w : ℕ) → enteringStop (choose b (ofReading (readOf w)) (noInstruction outside)) .cause ≢ 0 → Unnamed (choose b (ofReading (readOf w)) (noInstruction outside) .fields)
 choose-unnamed false w z = record { first = refl; second = refl; destination = refl }
 choose-unnamed true w z = elim (read-fetched w) [
   | found f c ↦ read-unnamed w (readOf w .fields) (ap (λ (n : ℕ). record { cause = n; fields = readOf w .fields }) c) (rw f at z)
   | nothing f c e ↦ rw e (record { first = refl; second = refl; destination = refl })
 ]
 
-pub entering-unnamed : (program : List ℕ) (address : ℕ) → enteringCause (fetchAt program address) ≢ 0 → Unnamed (fetchAt program address .fields)
+pub entering-unnamed : (program : List ℕ) (address : ℕ) → enteringStop (fetchAt program address) .cause ≢ 0 → Unnamed (fetchAt program address .fields)
 unfolding fetchAt
 entering-unnamed program address z = choose-unnamed (accessible (length program) address 4) _ z
 
 -- by the action of an instruction
-stops-at-once : (a : Action) (len address c first second : ℕ) → causeBy a ≢ 0 → executedBy a len address c first second .stop ≡ stop (causeBy a)
-unfolding causeBy executedBy
+stops-at-once : (a : Action) (len address c first second : ℕ) → stopBy a .cause ≢ 0 → executedBy a len address c first second .stop ≡ stopBy a
+unfolding stopBy executedBy
 stops-at-once (Computes computation) len address c first second z = absurd (z refl)
 stops-at-once (LoadsSigned size) len address c first second z = absurd (z refl)
 stops-at-once (LoadsUnsigned size) len address c first second z = absurd (z refl)
@@ -155,19 +155,19 @@ second-same i first second memory bytes h = cases (loads i) refl
     cases false e = second-plain (actionOf (i .operation)) _ _ second _ e ∙ sym (second-plain (actionOf (i .operation)) _ _ second _ e)
 
 -- the step at an address, by what was fetched there
-pub step-executable : (program : List ℕ) (s : State) → enteringCause (fetchAt program (s .address)) ≡ 0 → stepOf program s ≡ stepWith (fetchAt program (s .address) .fields) s
+pub step-executable : (program : List ℕ) (s : State) → enteringStop (fetchAt program (s .address)) .cause ≡ 0 → stepOf program s ≡ stepWith (fetchAt program (s .address) .fields) s
 unfolding stepOf
 step-executable program s e = elim (fetched program (s .address)) [ found f c ↦ rw f | nothing f c n ↦ absurd (c (rw f at e)) ]
 
-with-ended : (i : Instruction) (s : State) → causeAtOnce i ≢ 0 → stepWith i s .stop ≡ stop (causeAtOnce i)
+with-ended : (i : Instruction) (s : State) → stopAtOnce i .cause ≢ 0 → stepWith i s .stop ≡ stopAtOnce i
 unfolding stepWith
 with-ended i s z =
     let o = executed (length (s .memory)) i (s .address) (firstOf s i) (secondOf s i) in
-    let e : o .stop ≡ stop (causeAtOnce i) = stops-at-once (actionOf (i .operation)) _ _ _ _ _ z in
+    let e : o .stop ≡ stopAtOnce i = stops-at-once (actionOf (i .operation)) _ _ _ _ _ z in
     rw (ne-eqb (o .stop .cause) 0 (λ q. z (sym (ap (λ (x : Stop). x .cause) e) ∙ q))) e
 
--- where the entry enters completed, the step stops with its cause
-pub step-ended : (program : List ℕ) (s : State) → enteringCause (fetchAt program (s .address)) ≢ 0 → stepOf program s .stop ≡ stop (enteringCause (fetchAt program (s .address)))
+-- where the entry enters completed, the step stops as it does
+pub step-ended : (program : List ℕ) (s : State) → enteringStop (fetchAt program (s .address)) .cause ≢ 0 → stepOf program s .stop ≡ enteringStop (fetchAt program (s .address))
 unfolding stepOf
 step-ended program s z = elim (fetched program (s .address)) [
   | found f c ↦ rw f (with-ended (fetchAt program (s .address) .fields) s (rw f at z))
@@ -175,7 +175,7 @@ step-ended program s z = elim (fetched program (s .address)) [
 ]
 
 -- a step that was executed, from its outcome
-module _ (program : List ℕ) (s : State) (i : Instruction) (executable : enteringCause (fetchAt program (s .address)) ≡ 0) (is : i ≡ fetchAt program (s .address) .fields) where
+module _ (program : List ℕ) (s : State) (i : Instruction) (executable : enteringStop (fetchAt program (s .address)) .cause ≡ 0) (is : i ≡ fetchAt program (s .address) .fields) where
   abbrev outcome : Outcome
   outcome = executed (length (s .memory)) i (s .address) (firstOf s i) (secondOf s i)
 
@@ -215,7 +215,7 @@ pub step-other : (program : List ℕ) (s : State) (r : ℕ) → r ≢ destinatio
 unfolding stepOf readRegister
 step-other program s r h =
     ap (choose (eqb r 0) 0)
-    (choose-either (λ (x : Step). getD (x .state .registers) r 0) (fetchAt program (s .address) .found) (stepWith (fetchAt program (s .address) .fields) s) (stoppedAt s (stop (fetchAt program (s .address) .cause))) (getD (s .registers) r 0)
+    (choose-either (λ (x : Step). getD (x .state .registers) r 0) (fetchAt program (s .address) .found) (stepWith (fetchAt program (s .address) .fields) s) (stoppedAt s (fetchAt program (s .address) .stop)) (getD (s .registers) r 0)
     (statement .only-destination (fetchAt program (s .address) .fields) s r h) refl)
 
 pub step-size : (program : List ℕ) (s : State) → length (stepOf program s .state .registers) ≡ length (s .registers)
@@ -237,5 +237,5 @@ with-unstored i s e =
 pub step-unstored : (program : List ℕ) (s : State) → stores (fetchAt program (s .address) .fields) ≡ false → stepOf program s .state .memory ≡ s .memory
 unfolding stepOf
 step-unstored program s e =
-    choose-either (λ (x : Step). x .state .memory) (fetchAt program (s .address) .found) (stepWith (fetchAt program (s .address) .fields) s) (stoppedAt s (stop (fetchAt program (s .address) .cause))) (s .memory)
+    choose-either (λ (x : Step). x .state .memory) (fetchAt program (s .address) .found) (stepWith (fetchAt program (s .address) .fields) s) (stoppedAt s (fetchAt program (s .address) .stop)) (s .memory)
     (with-unstored (fetchAt program (s .address) .fields) s e) refl

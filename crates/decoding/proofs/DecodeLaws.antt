@@ -8,7 +8,9 @@ use lib.Dec.{leb, eqb}
 use Rattle.isa.specs.Reads.{choose, none}
 use Rattle.isa.specs.declared.Instruction.{Instruction}
 use Rattle.reference.specs.Fetch.{FetchNumbers, noInstruction}
-use Rattle.execution.specs.Roles.{causeAtOnce}
+use Rattle.execution.specs.Execute.{stop}
+use Rattle.execution.specs.Roles.{stopAtOnce}
+use Rattle.execution.specs.declared.Stop.{Stop}
 use Rattle.reference.specs.Step.{when, first}
 use Rattle.tables.specs.Table.{lookUp, storeUnder}
 use Rattle.tables.specs.declared.Entry.{Entry}
@@ -29,14 +31,14 @@ has-place m e = leb-false (m .setup .window) (m .count) (passed (leb (m .setup .
 
 -- the entry, by what the program has
 module _ (m : Core) (f : FetchNumbers) (guess : ℕ) where
-  pub entry-none : (cause : ℕ) → noInstruction cause ≡ f → (cause ≡ 0 → ⊥) → endedEntry (m .fetch) none cause ≡ entryFor m f guess
-  entry-none cause e h = rw (← e, ne-eqb cause 0 h)
+  pub entry-none : (why : Stop) → noInstruction why ≡ f → (why .cause ≡ 0 → ⊥) → endedEntry (m .fetch) none why ≡ entryFor m f guess
+  entry-none why e h = rw (← e, ne-eqb (why .cause) 0 h)
 
-  pub entry-at-once : (i : Instruction) → record { found = true; cause = 0; fields = i } ≡ f → (causeAtOnce i ≡ 0 → ⊥) → endedEntry (m .fetch) i (causeAtOnce i) ≡ entryFor m f guess
-  entry-at-once i e h = rw (← e, ne-eqb (causeAtOnce i) 0 h)
+  pub entry-at-once : (i : Instruction) → record { found = true; stop = stop 0; fields = i } ≡ f → (stopAtOnce i .cause ≡ 0 → ⊥) → endedEntry (m .fetch) i (stopAtOnce i) ≡ entryFor m f guess
+  entry-at-once i e h = rw (← e, ne-eqb (stopAtOnce i .cause) 0 h)
 
-  pub entry-waits : (i : Instruction) → record { found = true; cause = 0; fields = i } ≡ f → causeAtOnce i ≡ 0 → startedEntry m i guess ≡ entryFor m f guess
-  entry-waits i e h = rw (← e, eq-eqb (causeAtOnce i) 0 h)
+  pub entry-waits : (i : Instruction) → record { found = true; stop = stop 0; fields = i } ≡ f → stopAtOnce i .cause ≡ 0 → startedEntry m i guess ≡ entryFor m f guess
+  entry-waits i e h = rw (← e, eq-eqb (stopAtOnce i .cause) 0 h)
 
 -- a destination takes its name
 pub renamed-is : (m : Core) (d name : ℕ) (mapname mapregister namelink : List ℕ) (mapvalid : List Bool) (following namehead : ℕ)

@@ -6,8 +6,9 @@ use lib.Dec.{leb, eqb}
 use Rattle.isa.specs.Reads.{choose}
 use Rattle.isa.specs.declared.Instruction.{Instruction}
 use Rattle.execution.specs.Execute.{stop, onward}
+use Rattle.execution.specs.declared.Stop.{Stop}
 use Rattle.reference.specs.Fetch.{FetchNumbers, fetchAt}
-use Rattle.execution.specs.Roles.{causeAtOnce, predictedNext}
+use Rattle.execution.specs.Roles.{stopAtOnce, predictedNext}
 use Rattle.reference.specs.Step.{when, first, firstSource, secondSource, destination}
 use Rattle.tables.specs.Table.{lookUp, lookValid}
 use Rattle.tables.specs.FreeList.{takenHead, takenLink}
@@ -26,13 +27,13 @@ use Rattle.core.specs.declared.Answer.{Answer}
 unfoldable pub decodeRefusal : Core → ℕ
 decodeRefusal m = first (when (halted m) 10 ∷ when (leb (m .setup .window) (m .count)) 11 ∷ [])
 
--- "where that reading gives no instruction, or gives ECALL or EBREAK, the entry enters completed with cause 4, 1, 2 or 3": the cause, 0 for all others
-abbrev pub enteringCause : FetchNumbers → ℕ
-enteringCause f = choose (f .found) (causeAtOnce (f .fields)) (f .cause)
+-- "where that reading gives no instruction, or gives ECALL or EBREAK, the entry enters completed with cause 4, 1, 2 or 3": the stop, without a cause for all others
+abbrev pub enteringStop : FetchNumbers → Stop
+enteringStop f = choose (f .found) (stopAtOnce (f .fields)) (f .stop)
 
 -- "Where decode found no instruction, the entry keeps operation 0 with zero fields."
-abbrev pub endedEntry : ℕ → Instruction → ℕ → Entry
-endedEntry address i cause =
+abbrev pub endedEntry : ℕ → Instruction → Stop → Entry
+endedEntry address i why =
     record {
       instruction = i;
       address = address;
@@ -46,7 +47,7 @@ endedEntry address i cause =
       name = 0;
       previous = 0;
       state = Completed;
-      stop = stop cause;
+      stop = why;
     }
 
 -- "operands come from the general map (ready if valid)"
@@ -82,7 +83,7 @@ startedEntry m i guess =
 
 -- the entry that decode enters
 abbrev pub entryFor : Core → FetchNumbers → ℕ → Entry
-entryFor m f guess = choose (eqb (enteringCause f) 0) (startedEntry m (f .fields) guess) (endedEntry (m .fetch) (f .fields) (enteringCause f))
+entryFor m f guess = choose (eqb (enteringStop f .cause) 0) (startedEntry m (f .fields) guess) (endedEntry (m .fetch) (f .fields) (enteringStop f))
 
 -- the general map shows a name under its destination, "valid is cleared"; the pool of names is without its head where there is a destination
 abbrev pub renamed : ℕ → ℕ → Core → Core

@@ -38,9 +38,9 @@ fn refusal(halt: Stop, window: u8, count: u8) -> u8
     0
 }
 
-// an entry that enters with a cause
-fn ended(address: u32, instruction: Instruction, cause: u8) -> Entry
-    ensures { λ r. ⌜ r ≡ Decode.endedEntry address instruction cause ⌝ }
+// an entry that enters with a stop
+fn ended(address: u32, instruction: Instruction, stop: Stop) -> Entry
+    ensures { λ r. ⌜ r ≡ Decode.endedEntry address instruction stop ⌝ }
 {
     Entry {
         instruction,
@@ -55,13 +55,13 @@ fn ended(address: u32, instruction: Instruction, cause: u8) -> Entry
         name: 0,
         previous: 0,
         state: State::Completed,
-        stop: Stop { cause },
+        stop,
     }
 }
 
 // an entry for which decode found no instruction
-fn without_instruction(address: u32, cause: u8) -> Entry
-    ensures { λ r. ⌜ r ≡ Decode.endedEntry address none cause ⌝ }
+fn without_instruction(address: u32, stop: Stop) -> Entry
+    ensures { λ r. ⌜ r ≡ Decode.endedEntry address none stop ⌝ }
 {
     let none = Instruction {
         operation: 0,
@@ -70,7 +70,7 @@ fn without_instruction(address: u32, cause: u8) -> Entry
         rs2: 0,
         constant: 0,
     };
-    ended(address, none, cause)
+    ended(address, none, stop)
 }
 
 fn name_for(head: u8, destination: u8) -> u8
@@ -163,15 +163,15 @@ pub fn entry_for<'a>(
     ensures { λ r. ⌜ r ≡ Decode.entryFor (seen (now (mapname .entry)) (now (mapregister .entry)) (now (mapvalid .entry)) head address) (fetchAt (now (program .entry)) address) guess ⌝ }
 {
     if !program::has_word(program, address) {
-        return without_instruction(address, 4);
+        return without_instruction(address, program::outside());
     }
     let word = program::word_at(program, address);
     let Reading::Legal(i) = isa::read(word) else {
-        return without_instruction(address, 1);
+        return without_instruction(address, program::illegal());
     };
-    let at_once = roles::cause_at_once(i);
-    if at_once != 0 {
-        return ended(address, i, at_once);
+    let stop = roles::stop_at_once(i);
+    if stop.cause != 0 {
+        return ended(address, i, stop);
     }
     started(mapname, mapregister, mapvalid, head, address, i, guess)
 }

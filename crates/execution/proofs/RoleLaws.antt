@@ -8,8 +8,8 @@ use Rattle.laws.proofs.Bools.{impossible}
 use Rattle.word.specs.Arithmetic.{sum}
 use Rattle.execution.specs.Actions.{Upper, UpperAddress, Jump, JumpRegister, Branch, Immediate, Register, Action, Computes, LoadsSigned, LoadsUnsigned, Stores, Stops}
 use Rattle.execution.specs.Codes.{class, kind}
-use Rattle.execution.specs.Execute.{onward}
-use Rattle.execution.specs.Roles.{loadsBy, storesBy, causeBy, predictedBy}
+use Rattle.execution.specs.Execute.{stop, onward}
+use Rattle.execution.specs.Roles.{loadsBy, storesBy, stopBy, predictedBy}
 
 pub loads-class : (a : Action) → eqb (class a) 8 || eqb (class a) 9 ≡ loadsBy a
 unfolding loadsBy
@@ -39,8 +39,8 @@ stores-class (LoadsUnsigned size) = refl
 stores-class (Stores size) = refl
 stores-class (Stops cause) = refl
 
-pub stops-class : (a : Action) → class a ≡ 0 → kind a ≡ causeBy a
-unfolding causeBy
+pub stops-class : (a : Action) → class a ≡ 0 → stop (kind a) ≡ stopBy a
+unfolding stopBy
 stops-class (Computes Upper) e = absurd (omega arith)
 stops-class (Computes UpperAddress) e = absurd (omega arith)
 stops-class (Computes Jump) e = absurd (omega arith)
@@ -53,8 +53,8 @@ stops-class (LoadsUnsigned size) e = absurd (omega arith)
 stops-class (Stores size) e = absurd (omega arith)
 stops-class (Stops cause) e = refl
 
-pub others-class : (a : Action) → (class a ≡ 0 → ⊥) → 0 ≡ causeBy a
-unfolding causeBy
+pub others-class : (a : Action) → (class a ≡ 0 → ⊥) → stop 0 ≡ stopBy a
+unfolding stopBy
 others-class (Computes computation) e = refl
 others-class (LoadsSigned size) e = refl
 others-class (LoadsUnsigned size) e = refl

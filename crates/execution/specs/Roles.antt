@@ -5,7 +5,8 @@ use Rattle.word.specs.Arithmetic.{sum}
 use Rattle.word.specs.Signed.{wordOf}
 use Rattle.isa.specs.declared.Instruction.{Instruction}
 use Rattle.execution.specs.Actions.{Computation, Upper, UpperAddress, Jump, JumpRegister, Branch, Immediate, Register, Action, Computes, LoadsSigned, LoadsUnsigned, Stores, Stops, actionOf}
-use Rattle.execution.specs.Execute.{onward}
+use Rattle.execution.specs.Execute.{stop, onward}
+use Rattle.execution.specs.declared.Stop.{Stop}
 
 unfoldable pub loadsBy : Action → Bool
 loadsBy (Computes computation) = false
@@ -27,16 +28,16 @@ storesBy (Stops cause) = false
 abbrev pub stores : Instruction → Bool
 stores i = storesBy (actionOf (i .operation))
 
--- the cause of ECALL and EBREAK, 0 for all that execute
-unfoldable pub causeBy : Action → ℕ
-causeBy (Computes computation) = 0
-causeBy (LoadsSigned size) = 0
-causeBy (LoadsUnsigned size) = 0
-causeBy (Stores size) = 0
-causeBy (Stops cause) = cause
+-- the stop of ECALL and EBREAK, without a cause for all that execute
+unfoldable pub stopBy : Action → Stop
+stopBy (Computes computation) = stop 0
+stopBy (LoadsSigned size) = stop 0
+stopBy (LoadsUnsigned size) = stop 0
+stopBy (Stores size) = stop 0
+stopBy (Stops cause) = stop cause
 
-abbrev pub causeAtOnce : Instruction → ℕ
-causeAtOnce i = causeBy (actionOf (i .operation))
+abbrev pub stopAtOnce : Instruction → Stop
+stopAtOnce i = stopBy (actionOf (i .operation))
 
 -- "Predicted next: the guess for branches and JALR, the target for JAL, else … address + 4."
 abbrev pub aheadOf : Computation → ℕ → ℕ → ℕ → ℕ

@@ -3,6 +3,7 @@ ghost use mathlib.Core.Path.{_≡_};
 ghost use Prim.Native.Nat.{_≤_};
 ghost use Rattle.isa.specs.Listing.{last};
 ghost use Rattle.execution.specs.Roles as Roles;
+use crate::Stop;
 use crate::actions;
 use isa::Instruction;
 
@@ -21,16 +22,17 @@ pub fn is_store(i: Instruction) -> bool
     actions::class(i.operation as usize) == actions::STORE
 }
 
-// the cause of ECALL and EBREAK, 0 for all that execute
-pub fn cause_at_once(i: Instruction) -> u8
+// the stop of ECALL and EBREAK, without a cause for all that execute
+pub fn stop_at_once(i: Instruction) -> Stop
     requires { ⌜ i .operation ≤ last ⌝ }
-    ensures { λ r. ⌜ r ≡ Roles.causeAtOnce i ⌝ }
+    ensures { λ r. ⌜ r ≡ Roles.stopAtOnce i ⌝ }
 {
     let operation = i.operation as usize;
     if actions::class(operation) == actions::STOP {
-        return actions::kind(operation);
+        let cause = actions::kind(operation);
+        return Stop { cause };
     }
-    0
+    Stop { cause: 0 }
 }
 
 // the guess for branches and JALR, the target for JAL, else the address after

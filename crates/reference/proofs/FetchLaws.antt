@@ -11,7 +11,7 @@ use Rattle.isa.specs.declared.Instruction.{Instruction}
 use Rattle.isa.proofs.Accepted.{Accepted}
 use Rattle.isa.proofs.Ranges.{read-accepted}
 use Rattle.isa.proofs.ReadLaws.{Small, legal-small}
-use Rattle.reference.specs.Fetch.{FetchNumbers, noInstruction, fetchNumbers, ofReading, hasWord, wordAt, fetchAt}
+use Rattle.reference.specs.Fetch.{FetchNumbers, noInstruction, fetchNumbers, ofReading, hasWord, wordAt, outside, fetchAt}
 use Rattle.reference.specs.declared.Fetching.{Fetching}
 use Rattle.reference.specs.declared.Fetching.the-variants.{Found, Stopped}
 
@@ -20,14 +20,14 @@ pub fetch-injective : (a b : Fetching) → fetchNumbers a ≡ fetchNumbers b →
 fetch-injective (Found i) (Found j) e = ap (λ (n : FetchNumbers). Found (n .fields)) e
 fetch-injective (Found i) (Stopped t) e = impossible (sym (ap (λ (n : FetchNumbers). n .found) e))
 fetch-injective (Stopped s) (Found j) e = impossible (ap (λ (n : FetchNumbers). n .found) e)
-fetch-injective (Stopped s) (Stopped t) e = ap (λ (n : FetchNumbers). Stopped (record { cause = n .cause })) e
+fetch-injective (Stopped s) (Stopped t) e = ap (λ (n : FetchNumbers). Stopped (n .stop)) e
 
 module _ (program : List ℕ) (address : ℕ) where
-  pub fetch-outside : hasWord program address ≡ false → noInstruction 4 ≡ fetchAt program address
+  pub fetch-outside : hasWord program address ≡ false → noInstruction outside ≡ fetchAt program address
   unfolding fetchAt
   fetch-outside a = rw a
 
-  pub fetch-illegal : hasWord program address ≡ true → readOf (wordAt program address) ≡ illegal → noInstruction 1 ≡ fetchAt program address
+  pub fetch-illegal : hasWord program address ≡ true → readOf (wordAt program address) ≡ illegal → noInstruction (ofReading illegal .stop) ≡ fetchAt program address
   unfolding fetchAt
   fetch-illegal a r = rw (a, r)
 
@@ -38,7 +38,7 @@ module _ (program : List ℕ) (address : ℕ) where
 legal-of : (n : Numbers) → eqb (n .cause) 0 ≡ true → n ≡ legal (n .fields)
 legal-of n e = ap (λ (c : ℕ). record { cause = c; fields = n .fields }) (eqb-true (n .cause) 0 e)
 
-small-at : (b : Bool) (w : ℕ) → choose b (ofReading (readOf w)) (noInstruction 4) .found ≡ true → Small (choose b (ofReading (readOf w)) (noInstruction 4) .fields)
+small-at : (b : Bool) (w : ℕ) → choose b (ofReading (readOf w)) (noInstruction outside) .found ≡ true → Small (choose b (ofReading (readOf w)) (noInstruction outside) .fields)
 small-at true w e = legal-small w (readOf w .fields) (legal-of (readOf w) e)
 small-at false w e = impossible e
 
@@ -52,7 +52,7 @@ found-small program address i e =
     subst (λ (n : FetchNumbers). n .found ≡ true → Small (n .fields)) (sym e) (fetched-small program address) refl
 
 -- the encoder takes what is fetched
-accepted-at : (b : Bool) (w : ℕ) → choose b (ofReading (readOf w)) (noInstruction 4) .found ≡ true → Accepted (choose b (ofReading (readOf w)) (noInstruction 4) .fields)
+accepted-at : (b : Bool) (w : ℕ) → choose b (ofReading (readOf w)) (noInstruction outside) .found ≡ true → Accepted (choose b (ofReading (readOf w)) (noInstruction outside) .fields)
 accepted-at true w e = read-accepted w (readOf w .fields) (legal-of (readOf w) e)
 accepted-at false w e = impossible e
 
@@ -63,13 +63,13 @@ fetched-accepted program address e = accepted-at (hasWord program address) (word
 -- where there is none: cause 1 or 4, and no fields
 pub record Missing (f : FetchNumbers) : Type 0 where
   pub fields : f .fields ≡ none
-  pub cause : eqb (f .cause) 1 || eqb (f .cause) 4 ≡ true
+  pub cause : eqb (f .stop .cause) 1 || eqb (f .stop .cause) 4 ≡ true
 
 missing-read : (w operation : ℕ) → eqb (readAs operation w .cause) 0 ≡ false → Missing (ofReading (readAs operation w))
 missing-read w zero e = record { fields = refl; cause = refl }
 missing-read w (suc n) e = impossible (sym e)
 
-missing-at : (b : Bool) (w : ℕ) → choose b (ofReading (readOf w)) (noInstruction 4) .found ≡ false → Missing (choose b (ofReading (readOf w)) (noInstruction 4))
+missing-at : (b : Bool) (w : ℕ) → choose b (ofReading (readOf w)) (noInstruction outside) .found ≡ false → Missing (choose b (ofReading (readOf w)) (noInstruction outside))
 unfolding readOf
 missing-at true w e = missing-read w (operationOf w) e
 missing-at false w e = record { fields = refl; cause = refl }

@@ -50,7 +50,7 @@ step-length : (program : List ℕ) (s : State) → length (stepOf program s .sta
 unfolding stepOf
 step-length program s =
     let f = fetchAt program (s .address) in
-    choose-either (λ (x : Step). length (x .state .memory)) (f .found) (stepWith (f .fields) s) (stoppedAt s (stop (f .cause))) (length (s .memory)) (with-length (f .fields) s) refl
+    choose-either (λ (x : Step). length (x .state .memory)) (f .found) (stepWith (f .fields) s) (stoppedAt s (f .stop)) (length (s .memory)) (with-length (f .fields) s) refl
 
 pub statement : Statement
 statement =

@@ -107,7 +107,7 @@ with-registers i s =
 pub step-registers : (program : List ℕ) (s : State) → length (stepOf program s .state .registers) ≡ length (s .registers)
 unfolding stepOf
 step-registers program s =
-    choose-either (λ (x : Step). length (x .state .registers)) (fetchAt program (s .address) .found) (stepWith (fetchAt program (s .address) .fields) s) (stoppedAt s (stop (fetchAt program (s .address) .cause))) (length (s .registers)) (with-registers (fetchAt program (s .address) .fields) s) refl
+    choose-either (λ (x : Step). length (x .state .registers)) (fetchAt program (s .address) .found) (stepWith (fetchAt program (s .address) .fields) s) (stoppedAt s (fetchAt program (s .address) .stop)) (length (s .registers)) (with-registers (fetchAt program (s .address) .fields) s) refl
 
 -- a stopped instruction changes nothing
 settled-kept : (s : State) (i : Instruction) (memory : List ℕ) (o : Outcome) → (settled s i memory o .stop .cause ≡ 0 → ⊥) → settled s i memory o .state ≡ s
@@ -126,7 +126,7 @@ pub step-kept : (program : List ℕ) (s : State) → (stepOf program s .stop .ca
 unfolding stepOf
 step-kept program s h = at (fetchAt program (s .address) .found) h
   where
-    at : (b : Bool) → (choose b (stepWith (fetchAt program (s .address) .fields) s) (stoppedAt s (stop (fetchAt program (s .address) .cause))) .stop .cause ≡ 0 → ⊥)
-        → choose b (stepWith (fetchAt program (s .address) .fields) s) (stoppedAt s (stop (fetchAt program (s .address) .cause))) .state ≡ s
+    at : (b : Bool) → (choose b (stepWith (fetchAt program (s .address) .fields) s) (stoppedAt s (fetchAt program (s .address) .stop)) .stop .cause ≡ 0 → ⊥)
+        → choose b (stepWith (fetchAt program (s .address) .fields) s) (stoppedAt s (fetchAt program (s .address) .stop)) .state ≡ s
     at true g = with-kept (fetchAt program (s .address) .fields) s g
     at false g = refl

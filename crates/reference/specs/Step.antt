@@ -68,7 +68,7 @@ stepWith i s =
     settled s i (stored i (firstOf s i) (secondOf s i) (s .memory)) (executed (length (s .memory)) i (s .address) (firstOf s i) (secondOf s i))
 
 abbrev pub stepFetched : FetchNumbers → State → Step
-stepFetched f s = choose (f .found) (stepWith (f .fields) s) (stoppedAt s (stop (f .cause)))
+stepFetched f s = choose (f .found) (stepWith (f .fields) s) (stoppedAt s (f .stop))
 
 unfoldable pub stepOf : List ℕ → State → Step
 stepOf program s = stepFetched (fetchAt program (s .address)) s

@@ -11,7 +11,7 @@ use Rattle.isa.specs.Encodes.{within, accepted, constantPart, wordOf}
 use Rattle.execution.specs.Memory.{accessible, secondBy, storedBy, endsWithinBy}
 use Rattle.execution.specs.Execute.{executedBy}
 use Rattle.reference.specs.Fetch.{fetchAt}
-use Rattle.execution.specs.Roles.{loadsBy, storesBy, causeBy, predictedBy}
+use Rattle.execution.specs.Roles.{loadsBy, storesBy, stopBy, predictedBy}
 use Rattle.reference.specs.Step.{readRegister, writeRegister, stepWith, first}
 use Rattle.tables.specs.Table.{lookUnder, storeUnder}
 use Rattle.core.specs.Core.{tabulateFrom}
@@ -37,7 +37,7 @@ use Rattle.worked.proofs.ClaimLaws.{says}
 
 -- computed from the definitions
 pub passes : check ≡ true
-unfolding field extend number put fixedPart operationFrom operationOf constantOf fieldsOf readOf within accepted constantPart wordOf accessible secondBy storedBy endsWithinBy executedBy fetchAt loadsBy storesBy causeBy predictedBy readRegister writeRegister stepWith first lookUnder storeUnder tabulateFrom risingLink setUpRefusal setUpOf everyFrom entryInRange tablesWithin machineInRange changeFirst lentRefusal decodeRefusal enter decodeOf storeBelow issueRefusal issued issueOf victimAmong completeRefusal robbed learned redirected completeOf commitRefusal moveDown retired commitOf make makeEvent makeAll sameList answersFrom test every
+unfolding field extend number put fixedPart operationFrom operationOf constantOf fieldsOf readOf within accepted constantPart wordOf accessible secondBy storedBy endsWithinBy executedBy fetchAt loadsBy storesBy stopBy predictedBy readRegister writeRegister stepWith first lookUnder storeUnder tabulateFrom risingLink setUpRefusal setUpOf everyFrom entryInRange tablesWithin machineInRange changeFirst lentRefusal decodeRefusal enter decodeOf storeBelow issueRefusal issued issueOf victimAmong completeRefusal robbed learned redirected completeOf commitRefusal moveDown retired commitOf make makeEvent makeAll sameList answersFrom test every
 passes = refl
 
 -- what passes at every row passes at each

@@ -8,6 +8,7 @@ use native.Mathlib.Omega.{arith}
 use borrow.Author.Needs.{needs}
 use denote.Ref.{now}
 use lib.ListN.{length}
+use Rattle.execution.specs.Execute.{stop}
 use Rattle.reference.specs.Step.{State, state}
 use Rattle.reference.specs.Run.{after, runOf}
 use Rattle.reference.proofs.RunLaws.{goes-on, stops-there, is-over}
@@ -76,7 +77,7 @@ returns-2 c =
     let a = c .before .before .before .before .args in
     let l = c .before .loop in
     let s = state (l .values) (l .at) (l .«data») in
-    answer-of (runOf (a .n) (now (a .program)) (state (a .registers) (a .address) (now (a .«data»)))) s (l .steps) (record { cause = 0 }) _ _
+    answer-of (runOf (a .n) (now (a .program)) (state (a .registers) (a .address) (now (a .«data»)))) s (l .steps) (stop 0) _ _
     (sym (l .inv .3) ∙ is-over (a .n) (l .steps) (now (a .program)) s (c .loop-test .left)) refl refl
 
 pub proceed-spec : {M : Type 1} → statement M
