@@ -10,8 +10,8 @@ use lib.ListN.{getD, replicate}
 use Rattle.laws.proofs.Bools.{both}
 use Rattle.laws.proofs.Table.{anywhere}
 use Rattle.isa.specs.Reads.{choose}
-use Rattle.reference.specs.Step.{programFits, dataFits}
-use Rattle.ranges.specs.Sizes.{namesOf, setUpRefusal, setupInRange}
+use Rattle.ranges.specs.Sizes.{namesOf, setUpRefusal}
+use Rattle.ranges.specs.declared.Setup.{Setup}
 use Rattle.core.specs.SetUp.{ownNumbers, risingNext, risingLink, freshMachine}
 use Rattle.core.specs.Range.{tablesInRange, machineInRange}
 use Rattle.ranges.specs.Tables.{everyFrom, within, tablesWithin}
@@ -19,7 +19,7 @@ use Rattle.core.specs.Statement.{rising, Statement}
 use Rattle.tables.specs.FreeList.{Pool}
 use Rattle.core.proofs.FreshLaws.{rising-pool}
 use Rattle.ranges.proofs.TableLaws.{every-holds}
-use Rattle.ranges.proofs.SizeLaws.{none-applies, accepted-sizes}
+use Rattle.ranges.proofs.SizeLaws.{accepted-in-range, accepted-sizes}
 use Rattle.core.proofs.TabulateLaws.{tabulate-at}
 
 -- the numbers of a table are at most 31
@@ -44,35 +44,32 @@ link-within last h =
     every-holds (λ (n : ℕ). leb n last) 0 last 1 (risingLink last)
     (λ i l g. le-leb (getD (risingLink last) i 0) last (subst (λ (n : ℕ). n ≤ last) (sym (tabulate-at 96 i (risingNext last) (omega arith))) (next-at last i (leb 32 i) (ltb i last) refl)))
 
-module _ (window registers program bytes : ℕ) (accepted : setUpRefusal window registers program bytes ≡ 0) where
-  setup : setupInRange (freshMachine window registers program bytes .setup) ≡ true
-  unfolding setUpRefusal
-  setup =
-      let t = none-applies (leb 1 window && leb window 64) (leb 32 registers && leb registers 95) (programFits program) (dataFits bytes) accepted in
-      let s = accepted-sizes window registers program bytes accepted in
-      both (both (both (both (both (le-leb 1 window (s .window-from)) (le-leb window 64 (s .window-to))) (le-leb 32 registers (s .registers-from))) (le-leb registers 95 (s .registers-to))) (t .2)) (t .3)
-
-  tables : tablesInRange (freshMachine window registers program bytes) ≡ true
+module _ (s : Setup) (accepted : setUpRefusal s ≡ 0) where
+  tables : tablesInRange (freshMachine s) ≡ true
   unfolding tablesWithin
   tables =
-      let s = accepted-sizes window registers program bytes accepted in
+      let window = s .window in
+      let registers = s .registers in
+      let z = accepted-sizes s accepted in
       let n : 31 ≤ registers = omega arith in
       let w : 31 ≤ namesOf window = omega arith in
       let l : namesOf window ≤ 95 = omega arith in
-      both (both (both (both (both (both (both (le-leb 32 registers (s .registers-from)) (link-within registers (s .registers-to))) (le-leb 32 (namesOf window) (omega arith))) (link-within (namesOf window) l))
+      both (both (both (both (both (both (both (le-leb 32 registers (z .registers-from)) (link-within registers (z .registers-to))) (le-leb 32 (namesOf window) (omega arith))) (link-within (namesOf window) l))
       (small-within (ownNumbers ++ replicate 64 0) registers (namesOf window) physical-small n)) (small-within ownNumbers (namesOf window) 31 own-small w)) (small-within ownNumbers registers 31 own-small n)) refl
 
-  pub fresh-in-range : machineInRange (freshMachine window registers program bytes) ≡ true
+  pub fresh-in-range : machineInRange (freshMachine s) ≡ true
   unfolding machineInRange everyFrom
-  fresh-in-range = both (both (both setup (le-leb 0 window (omega arith))) tables) refl
+  fresh-in-range = both (both (both (accepted-in-range s accepted) (le-leb 0 (s .window) (omega arith))) tables) refl
 
 pub statement : Statement
-statement window registers program bytes accepted =
-    let s = accepted-sizes window registers program bytes accepted in
+statement s accepted =
+    let window = s .window in
+    let registers = s .registers in
+    let z = accepted-sizes s accepted in
     let a : registers - 31 ≡ suc (registers - 32) = omega arith in
     let b : window ≡ suc (window - 1) = omega arith in
     record {
-      freeregisters = subst (λ (x : ℕ). Pool (risingLink registers) 32 (rising 32 x)) (sym a) (rising-pool registers (s .registers-from) (s .registers-to) (registers - 32) (omega arith));
+      freeregisters = subst (λ (x : ℕ). Pool (risingLink registers) 32 (rising 32 x)) (sym a) (rising-pool registers (z .registers-from) (z .registers-to) (registers - 32) (omega arith));
       freenames = subst (λ (x : ℕ). Pool (risingLink (namesOf window)) 32 (rising 32 x)) (sym b) (rising-pool (namesOf window) (omega arith) (omega arith) (window - 1) (omega arith));
-      inrange = fresh-in-range window registers program bytes accepted;
+      inrange = fresh-in-range s accepted;
     }

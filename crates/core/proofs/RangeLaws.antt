@@ -35,4 +35,4 @@ in-range-count m t =
     let ab = and-left (a && b) c (and-left (a && b && c) d t) in
     let s = setup-sizes (m .setup) (and-left a b ab) in
     let n = leb-true (m .count) (m .setup .window) (and-right a b ab) in
-    omega (arith, s .window, n)
+    omega (arith, s .window-to, n)

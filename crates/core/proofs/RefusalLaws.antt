@@ -94,4 +94,4 @@ in-range-window m t =
     let b = leb (m .count) (m .setup .window) in
     let c = tablesInRange m in
     let d = entriesInRange (m .setup) (m .count) (m .entries) in
-    setup-sizes (m .setup) (and-left a b (and-left (a && b) c (and-left (a && b && c) d t))) .window
+    setup-sizes (m .setup) (and-left a b (and-left (a && b) c (and-left (a && b && c) d t))) .window-to

@@ -7,7 +7,8 @@ use lib.ListN.{replicate}
 use Rattle.isa.specs.Reads.{choose}
 use Rattle.execution.specs.Execute.{stop}
 use Rattle.tables.specs.Entry.{emptyEntry}
-use Rattle.ranges.specs.Sizes.{setupOf, namesOf, setUpRefusal}
+use Rattle.ranges.specs.Sizes.{namesOf, setUpRefusal}
+use Rattle.ranges.specs.declared.Setup.{Setup}
 use Rattle.core.specs.Core.{tabulate, zeroMachine}
 use Rattle.core.specs.declared.Core.{Core}
 use Rattle.core.specs.declared.Answer.{Answer}
@@ -26,10 +27,10 @@ unfoldable pub risingLink : ℕ → List ℕ
 risingLink last = tabulate 96 (risingNext last)
 
 -- "Fresh: logical r has name r and register r, values 0; …; fetch and next address are 0."
-abbrev pub freshMachine : ℕ → ℕ → ℕ → ℕ → Core
-freshMachine window registers program bytes =
+abbrev pub freshMachine : Setup → Core
+freshMachine s =
     record {
-      setup = setupOf window registers program bytes;
+      setup = s;
       count = 0;
       entries = replicate 64 emptyEntry;
       mapname = ownNumbers;
@@ -38,17 +39,14 @@ freshMachine window registers program bytes =
       physical = ownNumbers ++ replicate 64 0;
       values = replicate 96 0;
       registerhead = 32;
-      registerlink = risingLink registers;
+      registerlink = risingLink (s .registers);
       namehead = 32;
-      namelink = risingLink (namesOf window);
+      namelink = risingLink (namesOf (s .window));
       fetch = 0;
       next = 0;
       halt = stop 0;
     }
 
 -- "A refused set-up returns a machine of zeros."
-unfoldable pub setUpOf : ℕ → ℕ → ℕ → ℕ → Answer
-setUpOf window registers program bytes =
-    choose (eqb (setUpRefusal window registers program bytes) 0)
-    (record { core = freshMachine window registers program bytes; number = 0 })
-    (record { core = zeroMachine; number = setUpRefusal window registers program bytes })
+unfoldable pub setUpOf : Setup → Answer
+setUpOf s = choose (eqb (setUpRefusal s) 0) (record { core = freshMachine s; number = 0 }) (record { core = zeroMachine; number = setUpRefusal s })

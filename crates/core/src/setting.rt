@@ -3,6 +3,7 @@ ghost use Prim.Native.Nat.{_≤_, _<_};
 ghost use lib.ListN.{length};
 ghost use Rattle.core.specs.Core as Machines;
 ghost use Rattle.core.specs.SetUp.{risingNext, risingLink, freshMachine, setUpOf};
+ghost use Rattle.ranges.specs.Sizes.{setupOf, mostEntries, mostRegisters};
 use crate::Answer;
 use crate::Core;
 use execution::Stop;
@@ -232,21 +233,16 @@ fn zeros() -> Core
     }
 }
 
-fn fresh(window: u8, registers: u8, program: u16, bytes: u16) -> Core
-    requires { ⌜ (window ≤ 64) × (registers ≤ 95) ⌝ }
-    ensures { λ r. ⌜ r ≡ freshMachine window registers program bytes ⌝ }
+fn fresh(setup: Setup) -> Core
+    requires { ⌜ (setup .window ≤ mostEntries) × (setup .registers ≤ mostRegisters) ⌝ }
+    ensures { λ r. ⌜ r ≡ freshMachine setup ⌝ }
 {
     let mut registerlink = [0u8; 96];
     let mut namelink = [0u8; 96];
-    rise(&mut registerlink, registers);
-    rise(&mut namelink, 31 + window);
+    rise(&mut registerlink, setup.registers);
+    rise(&mut namelink, 31 + setup.window);
     Core {
-        setup: Setup {
-            window,
-            registers,
-            program,
-            bytes,
-        },
+        setup,
         count: 0,
         entries: [entries::empty(); 64],
         mapname: OWN,
@@ -268,7 +264,7 @@ impl Core {
     // A fresh machine for a window of 1 to 64 entries, 32 to 95 physical registers and these lengths of program and
     // data; refused by 1 to 4, a machine of zeros.
     pub fn set_up(window: u32, registers: u32, program: usize, bytes: usize) -> Answer
-        ensures { λ r. ⌜ r ≡ setUpOf window registers program bytes ⌝ }
+        ensures { λ r. ⌜ r ≡ setUpOf (setupOf window registers program bytes) ⌝ }
     {
         let number = sizes::refusal(window, registers, program, bytes);
         if number != 0 {
@@ -277,8 +273,18 @@ impl Core {
                 number,
             };
         }
+        let window = window as u8;
+        let registers = registers as u8;
+        let program = program as u16;
+        let bytes = bytes as u16;
+        let setup = Setup {
+            window,
+            registers,
+            program,
+            bytes,
+        };
         Answer {
-            core: fresh(window as u8, registers as u8, program as u16, bytes as u16),
+            core: fresh(setup),
             number: 0,
         }
     }

@@ -9,21 +9,34 @@ use Rattle.ranges.specs.declared.Setup.{Setup}
 abbrev pub setupOf : ℕ → ℕ → ℕ → ℕ → Setup
 setupOf window registers program bytes = record { window = window; registers = registers; program = program; bytes = bytes }
 
+-- "Window W (1–64) entries"
+abbrev pub mostEntries : ℕ
+mostEntries = 64
+
+abbrev pub windowFits : ℕ → Bool
+windowFits window = leb 1 window && leb window mostEntries
+
+-- "Physical registers 1 to N (N 32–95)."
+abbrev pub mostRegisters : ℕ
+mostRegisters = 95
+
+abbrev pub registersFit : ℕ → Bool
+registersFit registers = leb 32 registers && leb registers mostRegisters
+
 -- "Virtual names 1 to 31 + W."
 abbrev pub namesOf : ℕ → ℕ
 namesOf window = 31 + window
 
 -- "1 W out of range; 2 N out of range; 3 program length; 4 data length"
-unfoldable pub setUpRefusal : ℕ → ℕ → ℕ → ℕ → ℕ
-setUpRefusal window registers program bytes =
+unfoldable pub setUpRefusal : Setup → ℕ
+setUpRefusal s =
     first
-    (when (not (leb 1 window && leb window 64)) 1
-    ∷ when (not (leb 32 registers && leb registers 95)) 2
-    ∷ when (not (programFits program)) 3
-    ∷ when (not (dataFits bytes)) 4
+    (when (not (windowFits (s .window))) 1
+    ∷ when (not (registersFit (s .registers))) 2
+    ∷ when (not (programFits (s .program))) 3
+    ∷ when (not (dataFits (s .bytes))) 4
     ∷ [])
 
--- W, N, lengths
+-- "W, N, lengths"
 abbrev pub setupInRange : Setup → Bool
-setupInRange s =
-    leb 1 (s .window) && leb (s .window) 64 && leb 32 (s .registers) && leb (s .registers) 95 && programFits (s .program) && dataFits (s .bytes)
+setupInRange s = windowFits (s .window) && registersFit (s .registers) && programFits (s .program) && dataFits (s .bytes)

@@ -1,30 +1,44 @@
 // The sizes of a machine: W, N and the lengths of program and data.
 ghost use mathlib.Core.Path.{_≡_};
-ghost use Rattle.ranges.specs.Sizes.{setUpRefusal, setupInRange};
+ghost use Rattle.ranges.specs.Sizes.{setupOf, windowFits, registersFit, setUpRefusal, setupInRange};
 use crate::Setup;
+use reference::lengths;
+
+// the largest window, and the most physical registers
+pub const MOST_ENTRIES: usize = 64;
+
+pub const MOST_REGISTERS: usize = 95;
+
+fn window_fits(window: u32) -> bool
+    ensures { λ r. ⌜ r ≡ windowFits window ⌝ }
+{
+    (1 <= window) & (window <= MOST_ENTRIES as u32)
+}
+
+fn registers_fit(registers: u32) -> bool
+    ensures { λ r. ⌜ r ≡ registersFit registers ⌝ }
+{
+    (32 <= registers) & (registers <= MOST_REGISTERS as u32)
+}
 
 // refusals 1 to 4, or 0
 pub fn refusal(window: u32, registers: u32, program: usize, bytes: usize) -> u8
-    ensures { λ r. ⌜ r ≡ setUpRefusal window registers program bytes ⌝ }
+    ensures { λ r. ⌜ r ≡ setUpRefusal (setupOf window registers program bytes) ⌝ }
 {
-    let windowed = (1 <= window) & (window <= 64);
-    if !windowed {
+    if !window_fits(window) {
         return 1;
     }
-    let filed = (32 <= registers) & (registers <= 95);
-    if !filed {
+    if !registers_fit(registers) {
         return 2;
     }
-    reference::lengths::refusal_of(program, bytes)
+    lengths::refusal_of(program, bytes)
 }
 
 pub fn setup_in_range(s: Setup) -> bool
     ensures { λ r. ⌜ r ≡ setupInRange s ⌝ }
 {
-    (1 <= s.window)
-        & (s.window <= 64)
-        & (32 <= s.registers)
-        & (s.registers <= 95)
-        & ((4 <= s.program) & (s.program <= 16_384) & (s.program % 4 == 0))
-        & (s.bytes <= 16_384)
+    window_fits(s.window as u32)
+        & registers_fit(s.registers as u32)
+        & lengths::program_fits(s.program as usize)
+        & lengths::data_fits(s.bytes as usize)
 }

@@ -1,15 +1,26 @@
 ghost use mathlib.Core.Path.{_≡_};
-ghost use Rattle.reference.specs.Step.{lengthsRefusal, lengthRefusal};
+ghost use Rattle.reference.specs.Step.{programFits, dataFits, lengthsRefusal, lengthRefusal};
+
+pub fn program_fits(bytes: usize) -> bool
+    ensures { λ r. ⌜ r ≡ programFits bytes ⌝ }
+{
+    (4 <= bytes) & (bytes <= 16_384) & (bytes % 4 == 0)
+}
+
+pub fn data_fits(bytes: usize) -> bool
+    ensures { λ r. ⌜ r ≡ dataFits bytes ⌝ }
+{
+    bytes <= 16_384
+}
 
 // refusal 3 for a program's length, 4 for the data's, 0 for none
 pub fn refusal_of(program: usize, bytes: usize) -> u8
     ensures { λ r. ⌜ r ≡ lengthsRefusal program bytes ⌝ }
 {
-    let fits = (4 <= program) & (program <= 16_384) & (program % 4 == 0);
-    if !fits {
+    if !program_fits(program) {
         return 3;
     }
-    if 16_384 < bytes {
+    if !data_fits(bytes) {
         return 4;
     }
     0

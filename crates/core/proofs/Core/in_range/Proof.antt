@@ -38,12 +38,12 @@ tables-in-range-requires : tie.Need-tables-in-range-requires
 tables-in-range-requires c κs =
     let start = c .before .before .before .before .before .before .before .before .before .before .before .before in
     let z = setup-sizes (start .args .t1 .setup) (sym (c .before .before .before .before .before .before .before .before .before .before .setup-in-range .ensures) ∙ not-false _ (c .before .before .before .before .before .before .before .before .before .if1 .left)) in
-    (z .window, z .registers, registerlink-long start, namelink-long start, physical-long start, mapname-long start, mapregister-long start)
+    (z .window-to, z .registers-to, registerlink-long start, namelink-long start, physical-long start, mapname-long start, mapregister-long start)
 
 entries-in-range-requires : tie.Need-entries-in-range-requires
 entries-in-range-requires c κs =
     let z = setup-sizes (c .before .before .before .before .before .before .before .before .before .before .before .before .before .args .t1 .setup) (sym (c .before .before .before .before .before .before .before .before .before .before .before .setup-in-range .ensures) ∙ not-false _ (c .before .before .before .before .before .before .before .before .before .before .if1 .left)) in
-    (omega (arith, z .window, c .before .before .before .before .before .before .before .before .if2 .left), z .window)
+    (omega (arith, z .window-to, c .before .before .before .before .before .before .before .before .if2 .left), z .window-to)
 
 returns-3 : tie.Need-returns-3
 returns-3 c =

@@ -16,7 +16,7 @@ empty-requires c κs = search needs
 
 returns : tie.Need-returns
 returns c =
-    rw (c .empty .ensures, c .before .before .before .rise .ensures, c .before .rise2 .ensures)
+    rw (c .empty .ensures, c .before .before .before .before .rise .ensures, c .before .rise2 .ensures)
 
 pub fresh-spec : {M : Type 1} → statement M
 fresh-spec = tie.close (tie.spec rise-requires add-rise rise-requires-2 empty-requires returns)
