@@ -5,6 +5,7 @@ ghost use Prim.Native.Nat.{_≤_, _<_};
 ghost use Rattle.core.specs.Range.{machineInRange};
 ghost use Rattle.core.specs.Setters.{withEntries};
 ghost use Rattle.committing.specs.Commit as Commit;
+ghost use Rattle.ranges.specs.Sizes.{mostEntries};
 use core::Answer;
 use core::Core;
 use execution::Stop;
@@ -31,7 +32,7 @@ fn commit_refusal(core: Core) -> u8
 
 // all entries one place down
 fn moved_down(mut core: Core) -> Core
-    requires { ⌜ (0 < core .count) × (core .count ≤ 64) ⌝ }
+    requires { ⌜ (0 < core .count) × (core .count ≤ mostEntries) ⌝ }
     ensures { λ r. ⌜ r ≡ withEntries (Commit.moveDown (core .count) (core .entries)) core ⌝ }
 {
     let last = core.count as usize - 1;
@@ -48,7 +49,7 @@ fn moved_down(mut core: Core) -> Core
 
 // the oldest entry leaves: the previous name and its register are free
 fn retired(mut core: Core) -> Core
-    requires { ⌜ (0 < core .count) × (core .count ≤ 64) ⌝ }
+    requires { ⌜ (0 < core .count) × (core .count ≤ mostEntries) ⌝ }
     ensures { λ r. ⌜ r ≡ Commit.retired core ⌝ }
 {
     let e = core.entries[0];
@@ -68,7 +69,7 @@ fn retired(mut core: Core) -> Core
 
 // every entry leaves, and the machine halts
 fn stopped(core: Core, stop: Stop) -> Core
-    requires { ⌜ core .count ≤ 64 ⌝ }
+    requires { ⌜ core .count ≤ mostEntries ⌝ }
     ensures { λ r. ⌜ r ≡ Commit.stoppedWith stop core ⌝ }
 {
     let mut emptied = core.drop_to(0);

@@ -7,6 +7,7 @@ ghost use Rattle.core.specs.Range.{machineInRange};
 ghost use Rattle.core.specs.Changes.{changeAll};
 ghost use Rattle.completing.specs.Complete as Complete;
 ghost use Rattle.tables.specs.Entry.{wakeEntry};
+ghost use Rattle.ranges.specs.Sizes.{mostEntries};
 use core::Answer;
 use core::Core;
 use core::Setup;
@@ -18,7 +19,7 @@ use tables::maps;
 
 // operands on this name are ready with this register
 fn wake_all(mut core: Core, name: u8, register: u8) -> Core
-    requires { ⌜ core .count ≤ 64 ⌝ }
+    requires { ⌜ core .count ≤ mostEntries ⌝ }
     ensures { λ r. ⌜ r ≡ changeAll (wakeEntry name register) core ⌝ }
 {
     let count = core.count as usize;
@@ -79,7 +80,7 @@ fn complete_refusal(core: Core, position: usize) -> u8
 
 // the entry is completed with a register, which gets the result
 fn learned(mut core: Core, position: usize, register: u8, result: u32) -> Core
-    requires { ⌜ (position < core .count) × (core .count ≤ 64) ⌝ }
+    requires { ⌜ (position < core .count) × (core .count ≤ mostEntries) ⌝ }
     ensures { λ r. ⌜ r ≡ Complete.learned position register result core ⌝ }
 {
     let e = core.entries[position];
@@ -103,7 +104,7 @@ fn learned(mut core: Core, position: usize, register: u8, result: u32) -> Core
 
 // a destination gets a free register, or the victim's
 fn registered(mut core: Core, position: usize, result: u32) -> Core
-    requires { ⌜ (position < core .count) × (core .count ≤ 64) ⌝ }
+    requires { ⌜ (position < core .count) × (core .count ≤ mostEntries) ⌝ }
     ensures { λ r. ⌜ r ≡ Complete.registered position result core ⌝ }
 {
     let e = core.entries[position];
@@ -125,7 +126,7 @@ fn registered(mut core: Core, position: usize, result: u32) -> Core
 
 // where the prediction was wrong, all younger entries are dropped and fetch goes to the actual next address
 fn redirected(core: Core, position: usize, next: u32) -> Core
-    requires { ⌜ (position < core .count) × (core .count ≤ 64) ⌝ }
+    requires { ⌜ (position < core .count) × (core .count ≤ mostEntries) ⌝ }
     ensures { λ r. ⌜ r ≡ Complete.redirected position next core ⌝ }
 {
     let e = core.entries[position];

@@ -4,8 +4,9 @@ use mathlib.Core.Bool.{false}
 use mathlib.Core.List.{List, [], _∷_}
 use lib.ListN.{replicate}
 use Rattle.execution.specs.Execute.{stop}
+use Rattle.tables.specs.Table.{places}
 use Rattle.tables.specs.Entry.{emptyEntry}
-use Rattle.ranges.specs.Sizes.{setupOf}
+use Rattle.ranges.specs.Sizes.{setupOf, mostEntries}
 use Rattle.core.specs.declared.Core.{Core}
 
 -- f at 0, 1, …, n − 1
@@ -22,16 +23,16 @@ zeroMachine =
     record {
       setup = setupOf 0 0 0 0;
       count = 0;
-      entries = replicate 64 emptyEntry;
+      entries = replicate mostEntries emptyEntry;
       mapname = replicate 32 0;
       mapregister = replicate 32 0;
       mapvalid = replicate 32 false;
-      physical = replicate 96 0;
-      values = replicate 96 0;
+      physical = replicate places 0;
+      values = replicate places 0;
       registerhead = 0;
-      registerlink = replicate 96 0;
+      registerlink = replicate places 0;
       namehead = 0;
-      namelink = replicate 96 0;
+      namelink = replicate places 0;
       fetch = 0;
       next = 0;
       halt = stop 0;

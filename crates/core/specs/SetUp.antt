@@ -6,8 +6,9 @@ use lib.Dec.{leb, ltb, eqb}
 use lib.ListN.{replicate}
 use Rattle.isa.specs.Reads.{choose}
 use Rattle.execution.specs.Execute.{stop}
+use Rattle.tables.specs.Table.{places}
 use Rattle.tables.specs.Entry.{emptyEntry}
-use Rattle.ranges.specs.Sizes.{namesOf, setUpRefusal}
+use Rattle.ranges.specs.Sizes.{mostEntries, namesOf, setUpRefusal}
 use Rattle.ranges.specs.declared.Setup.{Setup}
 use Rattle.core.specs.Core.{tabulate, zeroMachine}
 use Rattle.core.specs.declared.Core.{Core}
@@ -24,7 +25,7 @@ abbrev pub risingNext : ℕ → ℕ → ℕ
 risingNext last k = choose (leb 32 k && ltb k last) (k + 1) 0
 
 unfoldable pub risingLink : ℕ → List ℕ
-risingLink last = tabulate 96 (risingNext last)
+risingLink last = tabulate places (risingNext last)
 
 -- "Fresh: logical r has name r and register r, values 0; …; fetch and next address are 0."
 abbrev pub freshMachine : Setup → Core
@@ -32,12 +33,12 @@ freshMachine s =
     record {
       setup = s;
       count = 0;
-      entries = replicate 64 emptyEntry;
+      entries = replicate mostEntries emptyEntry;
       mapname = ownNumbers;
       mapregister = ownNumbers;
       mapvalid = false ∷ replicate 31 true;
-      physical = ownNumbers ++ replicate 64 0;
-      values = replicate 96 0;
+      physical = ownNumbers ++ replicate mostEntries 0;
+      values = replicate places 0;
       registerhead = 32;
       registerlink = risingLink (s .registers);
       namehead = 32;

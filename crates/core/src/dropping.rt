@@ -1,6 +1,7 @@
 ghost use mathlib.Core.Path.{_≡_};
 ghost use Prim.Native.Nat.{_≤_};
 ghost use Rattle.core.specs.Drop as Drop;
+ghost use Rattle.ranges.specs.Sizes.{mostEntries};
 use crate::Core;
 use tables::entries;
 use tables::free_list;
@@ -10,7 +11,7 @@ impl Core {
     // The oldest entries alone, so many: with position + 1 kept, all younger than the position are dropped. Each drop is made
     // in place, since a function that takes and returns the machine copies it twice.
     pub fn drop_to(mut self, kept: u8) -> Core
-        requires { ⌜ self .count ≤ 64 ⌝ }
+        requires { ⌜ self .count ≤ mostEntries ⌝ }
         ensures { λ r. ⌜ r ≡ Drop.dropTo kept self ⌝ }
     {
         while kept < self.count {

@@ -8,22 +8,24 @@ pub mod setting;
 
 use execution::Stop;
 pub use ranges::Setup;
+use ranges::sizes::MOST_ENTRIES;
 use tables::Entry;
+use tables::PLACES;
 
 // The core: all that document 01's machine holds, under 4 KB, by value. Every table is a field of its own; index 0 of a table is nobody's.
 pub struct Core {
     pub setup: Setup,
     pub count: u8,
-    pub entries: [Entry; 64],
+    pub entries: [Entry; MOST_ENTRIES],
     pub mapname: [u8; 32],
     pub mapregister: [u8; 32],
     pub mapvalid: [bool; 32],
-    pub physical: [u8; 96],
-    pub values: [u32; 96],
+    pub physical: [u8; PLACES],
+    pub values: [u32; PLACES],
     pub registerhead: u8,
-    pub registerlink: [u8; 96],
+    pub registerlink: [u8; PLACES],
     pub namehead: u8,
-    pub namelink: [u8; 96],
+    pub namelink: [u8; PLACES],
     pub fetch: u32,
     pub next: u32,
     pub halt: Stop,

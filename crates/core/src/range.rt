@@ -2,6 +2,7 @@
 ghost use mathlib.Core.Path.{_≡_};
 ghost use Prim.Native.Nat.{_≤_};
 ghost use Rattle.core.specs.Range as Range;
+ghost use Rattle.ranges.specs.Sizes.{mostEntries};
 use crate::Core;
 use ranges::entries;
 use ranges::sizes;
@@ -9,7 +10,7 @@ use ranges::table;
 
 impl Core {
     fn entries_in_range(self) -> bool
-        requires { ⌜ (self .count ≤ 64) × (self .setup .window ≤ 64) ⌝ }
+        requires { ⌜ (self .count ≤ mostEntries) × (self .setup .window ≤ mostEntries) ⌝ }
         ensures { λ r. ⌜ r ≡ Range.entriesInRange (self .setup) (self .count) (self .entries) ⌝ }
     {
         let s = self.setup;

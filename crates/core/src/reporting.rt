@@ -1,6 +1,7 @@
 ghost use mathlib.Core.Path.{_≡_};
 ghost use Prim.Native.Nat.{_≤_};
 ghost use Rattle.core.specs.Report as Reports;
+ghost use Rattle.ranges.specs.Sizes.{mostEntries};
 use crate::Core;
 use tables::maps;
 
@@ -21,7 +22,7 @@ impl Core {
 
     // The committed registers, element 0 being 0. Inner: the report and replay use it.
     pub fn committed_values(self) -> [u32; 32]
-        requires { ⌜ self .count ≤ 64 ⌝ }
+        requires { ⌜ self .count ≤ mostEntries ⌝ }
         ensures { λ r. ⌜ r ≡ Reports.committedValues self ⌝ }
     {
         let empty = self.drop_to(0);

@@ -4,16 +4,19 @@ ghost use lib.ListN.{length};
 ghost use Rattle.core.specs.Core as Machines;
 ghost use Rattle.core.specs.SetUp.{risingNext, risingLink, freshMachine, setUpOf};
 ghost use Rattle.ranges.specs.Sizes.{setupOf, mostEntries, mostRegisters};
+ghost use Rattle.tables.specs.Table.{places};
 use crate::Answer;
 use crate::Core;
 use execution::Stop;
 use ranges::Setup;
 use ranges::sizes;
+use ranges::sizes::MOST_ENTRIES;
+use tables::PLACES;
 use tables::entries;
 
 // the number after k in a pool of 32 to last
 fn successor(k: usize, last: usize) -> u8
-    requires { ⌜ k < 96 ⌝ }
+    requires { ⌜ k < places ⌝ }
     ensures { λ r. ⌜ r ≡ risingNext last k ⌝ }
 {
     if (32 <= k) & (k < last) {
@@ -24,13 +27,13 @@ fn successor(k: usize, last: usize) -> u8
 }
 
 // the links of a pool of 32 to last, in rising order
-fn rise(link: &mut [u8; 96], last: u8)
-    requires { ⌜ length (now link) ≡ 96 ⌝ }
+fn rise(link: &mut [u8; PLACES], last: u8)
+    requires { ⌜ length (now link) ≡ places ⌝ }
     ensures { λ r. ⌜ now (link .exit) ≡ risingLink last ⌝ }
 {
     let end = last as usize;
     let mut k: usize = 0;
-    while k < 96 {
+    while k < PLACES {
         link[k] = successor(k, end);
         k += 1;
     }
@@ -72,7 +75,7 @@ const OWN: [u8; 32] = [
     31,
 ];
 
-const PHYSICAL: [u8; 96] = [
+const PHYSICAL: [u8; PLACES] = [
     0,
     1,
     2,
@@ -217,16 +220,16 @@ fn zeros() -> Core
             bytes: 0,
         },
         count: 0,
-        entries: [entries::empty(); 64],
+        entries: [entries::empty(); MOST_ENTRIES],
         mapname: [0; 32],
         mapregister: [0; 32],
         mapvalid: [false; 32],
-        physical: [0; 96],
-        values: [0; 96],
+        physical: [0; PLACES],
+        values: [0; PLACES],
         registerhead: 0,
-        registerlink: [0; 96],
+        registerlink: [0; PLACES],
         namehead: 0,
-        namelink: [0; 96],
+        namelink: [0; PLACES],
         fetch: 0,
         next: 0,
         halt: Stop { cause: 0 },
@@ -237,19 +240,19 @@ fn fresh(setup: Setup) -> Core
     requires { ⌜ (setup .window ≤ mostEntries) × (setup .registers ≤ mostRegisters) ⌝ }
     ensures { λ r. ⌜ r ≡ freshMachine setup ⌝ }
 {
-    let mut registerlink = [0u8; 96];
-    let mut namelink = [0u8; 96];
+    let mut registerlink = [0u8; PLACES];
+    let mut namelink = [0u8; PLACES];
     rise(&mut registerlink, setup.registers);
     rise(&mut namelink, 31 + setup.window);
     Core {
         setup,
         count: 0,
-        entries: [entries::empty(); 64],
+        entries: [entries::empty(); MOST_ENTRIES],
         mapname: OWN,
         mapregister: OWN,
         mapvalid: VALID,
         physical: PHYSICAL,
-        values: [0; 96],
+        values: [0; PLACES],
         registerhead: 32,
         registerlink,
         namehead: 32,

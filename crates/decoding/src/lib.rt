@@ -11,6 +11,7 @@ ghost use Rattle.reference.specs.Step.{when, first};
 ghost use Rattle.reference.specs.Fetch.{fetchAt};
 ghost use Rattle.decoding.specs.Decode as Decode;
 ghost use Rattle.decoding.specs.Seen.{seen};
+ghost use Rattle.ranges.specs.Sizes.{mostEntries};
 use core::Answer;
 use core::Core;
 use execution::Stop;
@@ -191,7 +192,7 @@ fn renamed(mut core: Core, destination: u8, name: u8) -> Core
 }
 
 fn enter(core: Core, e: Entry) -> Core
-    requires { ⌜ core .count < 64 ⌝ }
+    requires { ⌜ core .count < mostEntries ⌝ }
     ensures { λ r. ⌜ r ≡ Decode.enter e core ⌝ }
 {
     let mut entered = renamed(core, e.destination, e.name);
@@ -204,7 +205,7 @@ fn enter(core: Core, e: Entry) -> Core
 
 // Decode, where 5 and 6 do not apply.
 pub fn decode_within(core: Core, program: &[u8], guess: u32) -> Answer
-    requires { ⌜ core .setup .window ≤ 64 ⌝ }
+    requires { ⌜ core .setup .window ≤ mostEntries ⌝ }
     ensures { λ r. ⌜ r ≡ Decode.decodeWithin (now (program .entry)) guess core ⌝ }
 {
     let halt = core.halt;

@@ -6,10 +6,12 @@ ghost use lib.ListN.{length};
 ghost use Rattle.isa.specs.Listing.{last};
 ghost use Rattle.core.specs.Range.{machineInRange};
 ghost use Rattle.issuing.specs.Issue as Issue;
+ghost use Rattle.tables.specs.Table.{places};
 use core::Answer;
 use core::Core;
 use execution::roles;
 use tables::Entry;
+use tables::PLACES;
 use tables::entries;
 use tables::operands;
 
@@ -58,8 +60,8 @@ fn issue_refusal(core: Core, position: usize) -> u8
 }
 
 // the entry with the values that it reads. Inner: this crate and replay's loop call it.
-pub fn read(values: &[u32; 96], data: &[u8], e: Entry) -> Entry
-    requires { ⌜ (e .instruction .operation ≤ last) × (length (now values) ≡ 96) ⌝ }
+pub fn read(values: &[u32; PLACES], data: &[u8], e: Entry) -> Entry
+    requires { ⌜ (e .instruction .operation ≤ last) × (length (now values) ≡ places) ⌝ }
     ensures { λ r. ⌜ r ≡ Issue.readEntry (now (values .entry)) (now («data» .entry)) e ⌝ }
 {
     let i = e.instruction;

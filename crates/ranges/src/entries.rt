@@ -3,6 +3,7 @@ ghost use mathlib.Core.Path.{_≡_};
 ghost use Rattle.execution.specs.Memory.{storeEndsWithin};
 ghost use Prim.Native.Nat.{_≤_};
 ghost use Rattle.ranges.specs.Entries as Entries;
+ghost use Rattle.ranges.specs.Sizes.{mostEntries};
 use crate::Setup;
 use isa::Instruction;
 use tables::Entry;
@@ -61,7 +62,7 @@ fn store_in_range(bytes: u16, e: Entry) -> bool
 }
 
 pub fn entry_in_range(s: Setup, e: Entry) -> bool
-    requires { ⌜ s .window ≤ 64 ⌝ }
+    requires { ⌜ s .window ≤ mostEntries ⌝ }
     ensures { λ r. ⌜ r ≡ Entries.entryInRange s e ⌝ }
 {
     let names = 31 + s.window;

@@ -3,8 +3,11 @@ ghost use mathlib.Core.Path.{_≡_};
 ghost use Prim.Native.Nat.{_≤_, _<_};
 ghost use lib.ListN.{length};
 ghost use Rattle.ranges.specs.Tables as Tables;
+ghost use Rattle.tables.specs.Table.{places};
+ghost use Rattle.ranges.specs.Sizes.{mostEntries, mostRegisters};
 use crate::Setup;
 use execution::Stop;
+use tables::PLACES;
 
 // the numbers at 1 to count are at most the limit
 fn within(limit: u8, count: usize, table: &[u8]) -> bool
@@ -24,15 +27,15 @@ fn within(limit: u8, count: usize, table: &[u8]) -> bool
 pub fn tables_in_range<'a>(
     s: Setup,
     registerhead: u8,
-    registerlink: &'a [u8; 96],
+    registerlink: &'a [u8; PLACES],
     namehead: u8,
-    namelink: &'a [u8; 96],
-    physical: &'a [u8; 96],
+    namelink: &'a [u8; PLACES],
+    physical: &'a [u8; PLACES],
     mapname: &'a [u8; 32],
     mapregister: &'a [u8; 32],
     halt: Stop,
 ) -> bool
-    requires { ⌜ (s .window ≤ 64) × (s .registers ≤ 95) × (length (now registerlink) ≡ 96) × (length (now namelink) ≡ 96) × (length (now physical) ≡ 96) × (length (now mapname) ≡ 32) × (length (now mapregister) ≡ 32) ⌝ }
+    requires { ⌜ (s .window ≤ mostEntries) × (s .registers ≤ mostRegisters) × (length (now registerlink) ≡ places) × (length (now namelink) ≡ places) × (length (now physical) ≡ places) × (length (now mapname) ≡ 32) × (length (now mapregister) ≡ 32) ⌝ }
     ensures { λ r. ⌜ r ≡ Tables.tablesWithin s registerhead (now (registerlink .entry)) namehead (now (namelink .entry)) (now (physical .entry)) (now (mapname .entry)) (now (mapregister .entry)) halt ⌝ }
 {
     let registers = s.registers;

@@ -4,13 +4,14 @@ ghost use Prim.Native.Nat.{_≤_, _<_};
 ghost use Rattle.core.specs.Changes.{changeAll};
 ghost use Rattle.stealing.specs.Steal as Steal;
 ghost use Rattle.tables.specs.Entry.{sleepEntry};
+ghost use Rattle.ranges.specs.Sizes.{mostEntries};
 use core::Core;
 use tables::entries;
 use tables::maps;
 
 // the youngest entry that holds a register, if it is younger than the caller; else the caller's position
 pub fn victim(core: Core, position: usize) -> usize
-    requires { ⌜ (position < core .count) × (core .count ≤ 64) ⌝ }
+    requires { ⌜ (position < core .count) × (core .count ≤ mostEntries) ⌝ }
     ensures { λ r. ⌜ r ≡ Steal.victimOf core position ⌝ }
 {
     let mut k = core.count as usize - 1;
@@ -28,7 +29,7 @@ pub fn victim(core: Core, position: usize) -> usize
 
 // operands on this name are waiting again
 fn sleep_all(mut core: Core, name: u8) -> Core
-    requires { ⌜ core .count ≤ 64 ⌝ }
+    requires { ⌜ core .count ≤ mostEntries ⌝ }
     ensures { λ r. ⌜ r ≡ changeAll (sleepEntry name) core ⌝ }
 {
     let count = core.count as usize;
@@ -44,7 +45,7 @@ fn sleep_all(mut core: Core, name: u8) -> Core
 
 // the victim waits again, and its name has no register any more
 pub fn robbed(mut core: Core, victim: usize) -> Core
-    requires { ⌜ (victim < core .count) × (core .count ≤ 64) ⌝ }
+    requires { ⌜ (victim < core .count) × (core .count ≤ mostEntries) ⌝ }
     ensures { λ r. ⌜ r ≡ Steal.robbed victim core ⌝ }
 {
     let e = core.entries[victim];

@@ -6,6 +6,10 @@ use lib.Dec.{eqb}
 use lib.ListN.{getD, set}
 use Rattle.isa.specs.Reads.{choose}
 
+-- the places of a table of registers or of names: 0, which is nobody's, and 1 to 95
+abbrev pub places : ℕ
+places = 96
+
 -- what stands under a number; none under 0 and beyond the table
 unfoldable pub lookUnder : {A : Type 0} → A → List A → ℕ → A
 lookUnder none table n = choose (eqb n 0) none (getD table n none)

@@ -3,8 +3,10 @@ ghost use lib.ListN.{length};
 ghost use mathlib.Core.Bool.{_&&_};
 ghost use Rattle.tables.specs.Entry as Entries;
 ghost use Rattle.tables.specs.Operand.{isReady};
+ghost use Rattle.tables.specs.Table.{places};
 use crate::Entry;
 use crate::Operand;
+use crate::PLACES;
 use crate::State;
 use crate::maps;
 use crate::operands;
@@ -211,8 +213,8 @@ pub fn is_ready(e: Entry) -> bool
 }
 
 // the register that an entry holds, or 0
-pub fn held(physical: &[u8; 96], e: Entry) -> u8
-    requires { ⌜ length (now physical) ≡ 96 ⌝ }
+pub fn held(physical: &[u8; PLACES], e: Entry) -> u8
+    requires { ⌜ length (now physical) ≡ places ⌝ }
     ensures { λ r. ⌜ r ≡ Entries.held (now (physical .entry)) e ⌝ }
 {
     let state = e.state;

@@ -2,11 +2,13 @@
 ghost use mathlib.Core.Path.{_≡_};
 ghost use lib.ListN.{length};
 ghost use Rattle.tables.specs.FreeList.{takenHead, takenLink, freedHead, freedLink};
+ghost use Rattle.tables.specs.Table.{places};
+use crate::PLACES;
 use crate::maps;
 
 // takes the head out of the chain, and hands back the next one
-pub fn take(link: &mut [u8; 96], head: u8) -> u8
-    requires { ⌜ length (now link) ≡ 96 ⌝ }
+pub fn take(link: &mut [u8; PLACES], head: u8) -> u8
+    requires { ⌜ length (now link) ≡ places ⌝ }
     ensures { λ r. ⌜ (r ≡ takenHead (now (link .entry)) head) × (now (link .exit) ≡ takenLink (now (link .entry)) head) ⌝ }
 {
     let next = maps::look_up(link, head);
@@ -15,8 +17,8 @@ pub fn take(link: &mut [u8; 96], head: u8) -> u8
 }
 
 // puts a number at the head, and hands back the head
-pub fn free(link: &mut [u8; 96], head: u8, n: u8) -> u8
-    requires { ⌜ length (now link) ≡ 96 ⌝ }
+pub fn free(link: &mut [u8; PLACES], head: u8, n: u8) -> u8
+    requires { ⌜ length (now link) ≡ places ⌝ }
     ensures { λ r. ⌜ (r ≡ freedHead head n) × (now (link .exit) ≡ freedLink (now (link .entry)) head n) ⌝ }
 {
     maps::store_under(link, n, head);

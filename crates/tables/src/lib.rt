@@ -7,6 +7,9 @@ pub mod operands;
 use execution::Stop;
 use isa::Instruction;
 
+// The places of a table of registers or of names: 0, which is nobody's, and 1 to 95.
+pub const PLACES: usize = 96;
+
 // An operand is zero, waiting on a name, or ready with a name and a register.
 pub enum Operand {
     Zero,

@@ -2,51 +2,52 @@
 ghost use mathlib.Core.Path.{_≡_};
 ghost use lib.ListN.{length};
 ghost use Rattle.isa.specs.Reads.{choose};
-ghost use Rattle.tables.specs.Table.{lookUp, storeUnder, lookValid};
+ghost use Rattle.tables.specs.Table.{places, lookUp, storeUnder, lookValid};
+use crate::PLACES;
 
 // a name's register, or the next free number
-pub fn look_up(table: &[u8; 96], n: u8) -> u8
-    requires { ⌜ length (now table) ≡ 96 ⌝ }
+pub fn look_up(table: &[u8; PLACES], n: u8) -> u8
+    requires { ⌜ length (now table) ≡ places ⌝ }
     ensures { λ r. ⌜ r ≡ lookUp (now (table .entry)) n ⌝ }
 {
     let at = n as usize;
     if at == 0 {
         return 0;
     }
-    if at < 96 { table[at] } else { 0 }
+    if at < PLACES { table[at] } else { 0 }
 }
 
-pub fn store_under(table: &mut [u8; 96], n: u8, value: u8)
-    requires { ⌜ length (now table) ≡ 96 ⌝ }
+pub fn store_under(table: &mut [u8; PLACES], n: u8, value: u8)
+    requires { ⌜ length (now table) ≡ places ⌝ }
     ensures { λ r. ⌜ now (table .exit) ≡ storeUnder (now (table .entry)) n value ⌝ }
 {
     let at = n as usize;
     if at != 0 {
-        if at < 96 {
+        if at < PLACES {
             table[at] = value;
         }
     }
 }
 
 // a register's value
-pub fn value(values: &[u32; 96], register: u8) -> u32
-    requires { ⌜ length (now values) ≡ 96 ⌝ }
+pub fn value(values: &[u32; PLACES], register: u8) -> u32
+    requires { ⌜ length (now values) ≡ places ⌝ }
     ensures { λ r. ⌜ r ≡ lookUp (now (values .entry)) register ⌝ }
 {
     let at = register as usize;
     if at == 0 {
         return 0;
     }
-    if at < 96 { values[at] } else { 0 }
+    if at < PLACES { values[at] } else { 0 }
 }
 
-pub fn store_value(values: &mut [u32; 96], register: u8, value: u32)
-    requires { ⌜ length (now values) ≡ 96 ⌝ }
+pub fn store_value(values: &mut [u32; PLACES], register: u8, value: u32)
+    requires { ⌜ length (now values) ≡ places ⌝ }
     ensures { λ r. ⌜ now (values .exit) ≡ storeUnder (now (values .entry)) register value ⌝ }
 {
     let at = register as usize;
     if at != 0 {
-        if at < 96 {
+        if at < PLACES {
             values[at] = value;
         }
     }

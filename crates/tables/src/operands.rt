@@ -1,7 +1,9 @@
 ghost use mathlib.Core.Path.{_≡_};
 ghost use lib.ListN.{length};
 ghost use Rattle.tables.specs.Operand as Operands;
+ghost use Rattle.tables.specs.Table.{places};
 use crate::Operand;
+use crate::PLACES;
 use crate::maps;
 
 // ready with this register where it is on this name
@@ -49,8 +51,8 @@ pub fn is_ready(operand: Operand) -> bool
 }
 
 // the value that an operand reads
-pub fn value_of(values: &[u32; 96], operand: Operand) -> u32
-    requires { ⌜ length (now values) ≡ 96 ⌝ }
+pub fn value_of(values: &[u32; PLACES], operand: Operand) -> u32
+    requires { ⌜ length (now values) ≡ places ⌝ }
     ensures { λ r. ⌜ r ≡ Operands.valueOf (now (values .entry)) operand ⌝ }
 {
     match operand {

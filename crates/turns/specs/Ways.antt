@@ -6,6 +6,7 @@ use Rattle.isa.specs.Reads.{choose}
 use Rattle.execution.specs.Roles.{loads}
 use Rattle.execution.specs.declared.Stop.{Stop}
 use Rattle.execution.specs.declared.Outcome.{Outcome}
+use Rattle.ranges.specs.Sizes.{mostEntries}
 use Rattle.ranges.specs.declared.Setup.{Setup}
 use Rattle.tables.specs.Operand.{isReady}
 use Rattle.tables.specs.declared.Operand.{Operand}
@@ -21,7 +22,7 @@ use Rattle.turns.specs.declared.Ending.the-variants.{Stops, WithoutDesti
 
 -- a position within the entries; any other is that of the oldest entry
 abbrev pub entryPlace : ℕ → ℕ
-entryPlace position = choose (leb 64 position) 0 position
+entryPlace position = choose (leb mostEntries position) 0 position
 
 -- the place that a call looks at, always within the entries
 abbrev pub placeOf : Call → ℕ

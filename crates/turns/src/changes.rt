@@ -4,10 +4,11 @@ ghost use mathlib.Core.Bool.{true, false, not};
 ghost use lib.ListN.{length};
 ghost use lib.Dec.{eqb};
 ghost use Rattle.isa.specs.Reads.{choose};
-ghost use Rattle.tables.specs.Table.{lookUp, storeUnder};
+ghost use Rattle.tables.specs.Table.{places, lookUp, storeUnder};
 ghost use Rattle.tables.specs.FreeList.{freedHead, freedLink};
 ghost use Rattle.tables.specs.Entry.{completedEntry, predictedEntry, held, wakeEntry, sleepEntry};
 use tables::Entry;
+use tables::PLACES;
 use tables::entries;
 use tables::free_list;
 use tables::maps;
@@ -23,11 +24,11 @@ pub fn rename(
     mapname: &mut [u8; 32],
     mapregister: &mut [u8; 32],
     mapvalid: &mut [bool; 32],
-    namelink: &mut [u8; 96],
+    namelink: &mut [u8; PLACES],
     head: u8,
     e: Entry,
 ) -> u8
-    requires { ⌜ (length (now mapname) ≡ 32) × (length (now mapregister) ≡ 32) × (length (now mapvalid) ≡ 32) × (length (now namelink) ≡ 96) ⌝ }
+    requires { ⌜ (length (now mapname) ≡ 32) × (length (now mapregister) ≡ 32) × (length (now mapvalid) ≡ 32) × (length (now namelink) ≡ places) ⌝ }
     ensures { λ r. ⌜ (now (mapname .exit) ≡ storeUnder (now (mapname .entry)) (e .destination) (e .name)) × (now (mapregister .exit) ≡ storeUnder (now (mapregister .entry)) (e .destination) 0) × (now (mapvalid .exit) ≡ storeUnder (now (mapvalid .entry)) (e .destination) false) × (now (namelink .exit) ≡ storeUnder (now (namelink .entry)) (e .name) 0) × (r ≡ choose (eqb (e .destination) 0) head (lookUp (now (namelink .entry)) head)) ⌝ }
 {
     maps::map_to(mapname, e.destination, e.name);
@@ -43,12 +44,12 @@ pub fn learn(
     mapname: &[u8; 32],
     mapregister: &mut [u8; 32],
     mapvalid: &mut [bool; 32],
-    physical: &mut [u8; 96],
+    physical: &mut [u8; PLACES],
     e: Entry,
     register: u8,
     valid: bool,
 )
-    requires { ⌜ (length (now mapname) ≡ 32) × (length (now mapregister) ≡ 32) × (length (now mapvalid) ≡ 32) × (length (now physical) ≡ 96) ⌝ }
+    requires { ⌜ (length (now mapname) ≡ 32) × (length (now mapregister) ≡ 32) × (length (now mapvalid) ≡ 32) × (length (now physical) ≡ places) ⌝ }
     ensures { λ r. ⌜ (now (mapregister .exit) ≡ choose (eqb (lookUp (now (mapname .entry)) (e .destination)) (e .name)) (storeUnder (now (mapregister .entry)) (e .destination) register) (now (mapregister .entry))) × (now (mapvalid .exit) ≡ choose (eqb (lookUp (now (mapname .entry)) (e .destination)) (e .name)) (storeUnder (now (mapvalid .entry)) (e .destination) valid) (now (mapvalid .entry))) × (now (physical .exit) ≡ storeUnder (now (physical .entry)) (e .name) register) ⌝ }
 {
     let shown = maps::mapped(mapname, e.destination);
@@ -62,13 +63,13 @@ pub fn restore(
     mapname: &mut [u8; 32],
     mapregister: &mut [u8; 32],
     mapvalid: &mut [bool; 32],
-    physical: &mut [u8; 96],
-    registerlink: &mut [u8; 96],
-    namelink: &mut [u8; 96],
+    physical: &mut [u8; PLACES],
+    registerlink: &mut [u8; PLACES],
+    namelink: &mut [u8; PLACES],
     heads: Heads,
     x: Entry,
 ) -> Heads
-    requires { ⌜ (length (now mapname) ≡ 32) × (length (now mapregister) ≡ 32) × (length (now mapvalid) ≡ 32) × (length (now physical) ≡ 96) × (length (now registerlink) ≡ 96) × (length (now namelink) ≡ 96) ⌝ }
+    requires { ⌜ (length (now mapname) ≡ 32) × (length (now mapregister) ≡ 32) × (length (now mapvalid) ≡ 32) × (length (now physical) ≡ places) × (length (now registerlink) ≡ places) × (length (now namelink) ≡ places) ⌝ }
     ensures { λ r. ⌜ (now (mapname .exit) ≡ storeUnder (now (mapname .entry)) (x .destination) (x .previous)) × (now (mapregister .exit) ≡ storeUnder (now (mapregister .entry)) (x .destination) (lookUp (now (physical .exit)) (x .previous))) × (now (mapvalid .exit) ≡ storeUnder (now (mapvalid .entry)) (x .destination) (not (eqb (lookUp (now (physical .exit)) (x .previous)) 0))) × (now (physical .exit) ≡ storeUnder (now (physical .entry)) (x .name) 0) × (now (registerlink .exit) ≡ freedLink (now (registerlink .entry)) (heads .register) (held (now (physical .entry)) x)) × (now (namelink .exit) ≡ freedLink (now (namelink .entry)) (heads .name) (x .name)) × (r .register ≡ freedHead (heads .register) (held (now (physical .entry)) x)) × (r .name ≡ freedHead (heads .name) (x .name)) ⌝ }
 {
     let register = entries::held(physical, x);
@@ -87,13 +88,13 @@ pub fn restore(
 
 // the previous name and its register are free
 pub fn retire(
-    physical: &mut [u8; 96],
-    registerlink: &mut [u8; 96],
-    namelink: &mut [u8; 96],
+    physical: &mut [u8; PLACES],
+    registerlink: &mut [u8; PLACES],
+    namelink: &mut [u8; PLACES],
     heads: Heads,
     previous: u8,
 ) -> Heads
-    requires { ⌜ (length (now physical) ≡ 96) × (length (now registerlink) ≡ 96) × (length (now namelink) ≡ 96) ⌝ }
+    requires { ⌜ (length (now physical) ≡ places) × (length (now registerlink) ≡ places) × (length (now namelink) ≡ places) ⌝ }
     ensures { λ r. ⌜ (now (physical .exit) ≡ storeUnder (now (physical .entry)) previous 0) × (now (registerlink .exit) ≡ freedLink (now (registerlink .entry)) (heads .register) (lookUp (now (physical .entry)) previous)) × (now (namelink .exit) ≡ freedLink (now (namelink .entry)) (heads .name) previous) × (r .register ≡ freedHead (heads .register) (lookUp (now (physical .entry)) previous)) × (r .name ≡ freedHead (heads .name) previous) ⌝ }
 {
     let register = maps::look_up(physical, previous);

@@ -6,6 +6,7 @@ ghost use lib.Dec.{eqb};
 ghost use Rattle.isa.specs.Listing.{last};
 ghost use Rattle.events.specs.Counts.{callBy};
 ghost use Rattle.turns.specs.Ways as Ways;
+ghost use Rattle.ranges.specs.Sizes.{mostEntries};
 use crate::Ending;
 use crate::Way;
 use core::Setup;
@@ -13,6 +14,7 @@ use execution::Outcome;
 use execution::Stop;
 use execution::roles;
 use formats::Record;
+use ranges::sizes::MOST_ENTRIES;
 use tables::Entry;
 use tables::Operand;
 use tables::entries;
@@ -20,9 +22,9 @@ use window::Call;
 
 // a position within the entries; any other is that of the oldest entry
 fn entry_place(position: usize) -> usize
-    ensures { λ n. ⌜ (n ≡ Ways.entryPlace position) × (n < 64) × (n ≤ position) ⌝ }
+    ensures { λ n. ⌜ (n ≡ Ways.entryPlace position) × (n < mostEntries) × (n ≤ position) ⌝ }
 {
-    if 64 <= position {
+    if MOST_ENTRIES <= position {
         return 0;
     }
     position
@@ -30,7 +32,7 @@ fn entry_place(position: usize) -> usize
 
 // the place that an event looks at: the position of an issue or a complete, else that of the oldest entry
 pub fn place(r: Record) -> usize
-    ensures { λ n. ⌜ (n ≡ Ways.placeOf (callBy r)) × (n < 64) ⌝ }
+    ensures { λ n. ⌜ (n ≡ Ways.placeOf (callBy r)) × (n < mostEntries) ⌝ }
 {
     let call = events::call_of(r);
     match call {
@@ -146,7 +148,7 @@ pub fn fetch_after(next: u32, predicted: u32, fetch: u32) -> u32
 
 // how many entries stay after a completion: the younger ones go where the next address was not predicted
 pub fn kept_after(next: u32, predicted: u32, at: usize, count: usize) -> usize
-    requires { ⌜ (at < count) × (count ≤ 64) ⌝ }
+    requires { ⌜ (at < count) × (count ≤ mostEntries) ⌝ }
     ensures { λ k. ⌜ (k ≡ Ways.keptAfter next predicted at count) × (k ≤ count) ⌝ }
 {
     if next == predicted { count } else { at + 1 }
