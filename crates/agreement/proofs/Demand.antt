@@ -75,7 +75,7 @@ module _ (program : List ℕ) (begin : State) (n : ℕ) (w : World) (r : Reached
   agrees = agrees-at (r .safe)
 
 pub statement : Statement
-statement window registers program memory accepted events =
-    let begin : World = started window registers (length program) (length memory) memory in
+statement s program memory accepted events =
+    let begin : World = started s memory in
     let commits : ℕ = acceptedCommits program events begin in
-    agrees program (origin memory) commits (makeAll program events begin) (list-reached window registers program memory accepted events)
+    agrees program (origin memory) commits (makeAll program events begin) (list-reached s program memory accepted events)

@@ -4,7 +4,6 @@ use mathlib.Core.Path.{_≡_, refl, sym, ap, _∙_}
 use mathlib.Core.Bool.{false}
 use mathlib.Core.List.{List}
 use lib.Dec.{eqb}
-use lib.ListN.{length}
 use Rattle.isa.specs.Reads.{choose}
 use Rattle.reference.specs.Step.{State}
 use Rattle.core.specs.Call.{lentRefusal}
@@ -73,7 +72,7 @@ drained =
       rests = of-rests;
       calls = of-calls;
       ends = of-ends;
-      unrefused = λ window registers program memory accepted events.
-          let start : World = started window registers (length program) (length memory) memory in
-          of-unrefused program (origin memory) (acceptedCommits program events start) (makeAll program events start) (list-reached window registers program memory accepted events);
+      unrefused = λ s program memory accepted events.
+          let start : World = started s memory in
+          of-unrefused program (origin memory) (acceptedCommits program events start) (makeAll program events start) (list-reached s program memory accepted events);
     }

@@ -14,6 +14,7 @@ use Rattle.tables.specs.Table.{lookUnder, lookUp, lookValid, storeUnder}
 use Rattle.tables.specs.Entry.{emptyEntry, completedEntry, waitingEntry, sleepEntry, wakeEntry}
 use Rattle.tables.specs.declared.Entry.{Entry}
 use Rattle.tables.proofs.TableLaws.{store-length}
+use Rattle.ranges.specs.declared.Setup.{Setup}
 use Rattle.core.specs.SetUp.{freshMachine, risingNext, risingLink, ownNumbers}
 use Rattle.core.specs.Changes.{place, entryAt, shows}
 use Rattle.decoding.specs.Decode.{enter}
@@ -278,9 +279,9 @@ fresh-valid r = at (eqb r 0) (alike-at (false ∷ replicate 31 true) ownNumbers 
     at true k = refl
     at false k = k
 
-pub kept-fresh : (window registers program bytes : ℕ) → window ≤ 64 → Kept (freshMachine window registers program bytes)
+pub kept-fresh : (s : Setup) → s .window ≤ 64 → Kept (freshMachine s)
 unfolding risingLink
-kept-fresh window registers program bytes h =
+kept-fresh s h =
     record {
       entries = refl;
       mapname = refl;
@@ -288,8 +289,8 @@ kept-fresh window registers program bytes h =
       mapvalid = refl;
       physical = refl;
       values = refl;
-      registerlink = tabulate-length 96 0 (risingNext registers);
-      namelink = tabulate-length 96 0 (risingNext (31 + window));
+      registerlink = tabulate-length 96 0 (risingNext (s .registers));
+      namelink = tabulate-length 96 0 (risingNext (31 + s .window));
       count = omega arith;
       window = h;
       valid = fresh-valid;

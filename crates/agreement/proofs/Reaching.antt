@@ -1,24 +1,20 @@
 -- Every list of calls on a fresh machine reaches a world that agrees with the in-order run, and none of its numbers is out of range.
 use Prim.Native.Nat.{ℕ, _≤_}
 use mathlib.Core.Path.{_≡_, refl, sym, ap, subst, _∙_}
-use mathlib.Core.Bool.{true, _&&_}
+use mathlib.Core.Bool.{true}
 use mathlib.Core.List.{List}
 use native.Mathlib.Nat.{zero-add}
 use native.Mathlib.Omega.{arith}
-use lib.Dec.{leb}
 use lib.ListN.{length}
-use Rattle.laws.proofs.Bools.{and-left}
 use Rattle.reference.specs.Step.{State}
 use Rattle.execution.specs.declared.Stop.{Stop}
-use Rattle.core.specs.SetUp.{freshMachine}
-use Rattle.ranges.specs.Sizes.{setUpRefusal, setupInRange}
-use Rattle.core.specs.Range.{tablesInRange, entriesInRange, machineInRange}
+use Rattle.ranges.specs.declared.Setup.{Setup}
+use Rattle.core.specs.Range.{machineInRange}
 use Rattle.core.specs.Call.{lentRefusal}
 use Rattle.core.specs.declared.Core.{Core}
-use Rattle.core.proofs.FreshInRange.{fresh-in-range}
-use Rattle.ranges.proofs.SizeLaws.{accepted-sizes}
+use Rattle.ranges.proofs.SizeLaws.{accepted-in-range, accepted-sizes}
 use Rattle.window.specs.Calls.{World}
-use Rattle.agreement.specs.Lists.{Event, makeAll, acceptedCommits, started, origin}
+use Rattle.agreement.specs.Lists.{Event, makeAll, acceptedCommits, Accepted, started, origin}
 use Rattle.agreement.specs.Unrefused.{Unrefused}
 use Rattle.agreement.proofs.View.{viewOf}
 use Rattle.agreement.proofs.Start.{start}
@@ -30,37 +26,26 @@ use Rattle.agreement.proofs.Safe.{Safe, alive, dead, Reached, all-reach
 use Rattle.agreement.proofs.Ranged.{alive-range, emptied-range, step-cause}
 
 -- the machine of an accepted set-up
-setup-of : (m : Core) → machineInRange m ≡ true → setupInRange (m .setup) ≡ true
-unfolding machineInRange
-setup-of m t =
-    let a = setupInRange (m .setup) in
-    let b = leb (m .count) (m .setup .window) in
-    let c = tablesInRange m in
-    let d = entriesInRange (m .setup) (m .count) (m .entries) in
-    and-left a b (and-left (a && b) c (and-left (a && b && c) d t))
-
-pub started-reached : (window registers : ℕ) (program memory : List ℕ) → setUpRefusal window registers (length program) (length memory) ≡ 0
-    → Reached program (origin memory) 0 (started window registers (length program) (length memory) memory)
-started-reached window registers program memory accepted =
-    let sizes = accepted-sizes window registers (length program) (length memory) accepted in
+pub started-reached : (s : Setup) (program memory : List ℕ) → Accepted s program memory → Reached program (origin memory) 0 (started s memory)
+started-reached s program memory accepted =
     record {
       fit = record {
-        kept = kept-fresh window registers (length program) (length memory) (sizes .window-to);
-        setup = setup-of (freshMachine window registers (length program) (length memory)) (fresh-in-range window registers (length program) (length memory) accepted);
-        sized = refl;
-        bytes = refl;
+        kept = kept-fresh s (accepted-sizes s (accepted .set-up) .window-to);
+        setup = accepted-in-range s (accepted .set-up);
+        sized = accepted .program-length;
+        bytes = accepted .data-length;
       };
-      safe = alive (origin memory) (run-none program (origin memory)) refl refl refl (start window registers (length program) (length memory) accepted program memory);
+      safe = alive (origin memory) (run-none program (origin memory)) refl refl refl (start s (accepted .set-up) program memory);
     }
 
-pub list-reached : (window registers : ℕ) (program memory : List ℕ) → setUpRefusal window registers (length program) (length memory) ≡ 0 → (events : List Event)
-    → let begin : World = started window registers (length program) (length memory) memory in
+pub list-reached : (s : Setup) (program memory : List ℕ) → Accepted s program memory → (events : List Event)
+    → let begin : World = started s memory in
     Reached program (origin memory) (acceptedCommits program events begin) (makeAll program events begin)
-list-reached window registers program memory accepted events =
-    let begin : World = started window registers (length program) (length memory) memory in
+list-reached s program memory accepted events =
+    let begin : World = started s memory in
     let commits : ℕ = acceptedCommits program events begin in
     subst (λ (x : ℕ). Reached program (origin memory) x (makeAll program events begin)) (zero-add commits)
-    (all-reached program (origin memory) events 0 begin (started-reached window registers program memory accepted))
+    (all-reached program (origin memory) events 0 begin (started-reached s program memory accepted))
 
 -- refusal 5 does not apply, to a machine that runs or that halted
 pub reached-range : (program : List ℕ) (begin : State) (n : ℕ) (w : World) → Reached program begin n w → machineInRange (w .core) ≡ true
@@ -82,6 +67,6 @@ pub reached-lent : (program : List ℕ) (begin : State) (n : ℕ) (w : World) �
 reached-lent program begin n w r = none-lent (w .core) program (w .memory) (reached-range program begin n w r) (r .fit .sized) (r .fit .bytes)
 
 pub unrefused : Unrefused
-unrefused window registers program memory accepted events =
-    let begin : World = started window registers (length program) (length memory) memory in
-    reached-range program (origin memory) (acceptedCommits program events begin) (makeAll program events begin) (list-reached window registers program memory accepted events)
+unrefused s program memory accepted events =
+    let begin : World = started s memory in
+    reached-range program (origin memory) (acceptedCommits program events begin) (makeAll program events begin) (list-reached s program memory accepted events)

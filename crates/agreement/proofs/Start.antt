@@ -13,6 +13,7 @@ use Rattle.tables.specs.FreeList.{occurrences, Pool}
 use Rattle.tables.proofs.TableLaws.{look-within}
 use Rattle.core.specs.SetUp.{ownNumbers, risingNext, risingLink, freshMachine}
 use Rattle.ranges.specs.Sizes.{setUpRefusal}
+use Rattle.ranges.specs.declared.Setup.{Setup}
 use Rattle.core.specs.Statement.{rising, Fresh}
 use Rattle.core.proofs.TabulateLaws.{tabulate-length, tabulate-at}
 use Rattle.ranges.proofs.SizeLaws.{Sizes, accepted-sizes}
@@ -72,9 +73,15 @@ link-zero last = tabulate-at 96 0 (risingNext last) (omega arith)
 link-outside : (last : ℕ) (free : List ℕ) (head : ℕ) → Pool (risingLink last) head free → (k : ℕ) → occurrences k free ≡ 0 → getD (risingLink last) k 0 ≡ 0
 link-outside last free head pool k o = elim (eq? k 0) [ equal e t ↦ rw e (link-zero last) | apart e t ↦ look-within (risingLink last) k e ∙ pool .outside k o ]
 
-module _ (window registers program bytes : ℕ) (sizes : Sizes window registers program bytes) (fresh : Fresh window registers program bytes) where
+module _ (s : Setup) (sizes : Sizes s) (fresh : Fresh s) where
+  abbrev window : ℕ
+  window = s .window
+
+  abbrev registers : ℕ
+  registers = s .registers
+
   abbrev c : View
-  c = viewOf (freshMachine window registers program bytes)
+  c = viewOf (freshMachine s)
 
   register-pool : RegisterPool registers physical 32 (risingLink registers) (rising 32 (registers - 31))
   register-pool =
@@ -173,16 +180,15 @@ module _ (window registers program bytes : ℕ) (sizes : Sizes window registers 
 zero-read : (n r : ℕ) → readRegister (replicate n 0) r ≡ 0
 zero-read n r = elim (eq? r 0) [ equal e t ↦ rw e (read-zero (replicate n 0)) | apart e t ↦ read-some (replicate n 0) r e ∙ zeros-at n r ]
 
-pub start : (window registers program bytes : ℕ) → setUpRefusal window registers program bytes ≡ 0
-    → (p memory : List ℕ) → Invariant p (origin memory) (viewOf (freshMachine window registers program bytes))
+pub start : (s : Setup) → setUpRefusal s ≡ 0 → (p memory : List ℕ) → Invariant p (origin memory) (viewOf (freshMachine s))
 unfolding ExecutionChain lastState
-start window registers program bytes accepted p memory =
-    let sizes = accepted-sizes window registers program bytes accepted in
-    let fresh = statement window registers program bytes accepted in
+start s accepted p memory =
+    let sizes = accepted-sizes s accepted in
+    let fresh = statement s accepted in
     record {
-      ghost = g window registers program bytes sizes fresh;
+      ghost = g s sizes fresh;
       committed = ownNumbers;
-      accounting = accounting window registers program bytes sizes fresh;
+      accounting = accounting s sizes fresh;
       agree = record { values = λ r b. zeros-at 96 (getD ownNumbers r 0) ∙ sym (zero-read 32 r); size = zeros-length 32 };
       executed = tt;
       next = refl;

@@ -4,12 +4,11 @@ use mathlib.Core.Path.{_≡_}
 use mathlib.Core.Logic.{_≢_}
 use mathlib.Core.Bool.{true}
 use mathlib.Core.List.{List}
-use lib.ListN.{length}
-use Rattle.ranges.specs.Sizes.{setUpRefusal}
+use Rattle.ranges.specs.declared.Setup.{Setup}
 use Rattle.core.specs.Call.{lentRefusal}
 use Rattle.window.specs.Calls.{World, Made, make, neededOf}
 use Rattle.window.specs.Drain.{Drain, idle, drainEnds, drainOf}
-use Rattle.agreement.specs.Lists.{Event, makeAll, started}
+use Rattle.agreement.specs.Lists.{Event, makeAll, Accepted, started}
 
 -- so many calls that position 0 needs, all accepted, lead from one world to another
 unfoldable pub Leads : ℕ → List ℕ → World → World → Type 0
@@ -33,7 +32,6 @@ pub record Drained : Type 0 where
   -- "until no entry is left or the machine halts": it ends there on every machine on which no call is refused
   pub ends : (program : List ℕ) (w : World) → drainOf program w .number ≡ 0 → idle (drainOf program w .world .core) ≡ true
   -- "At a refused call it ends with that number …; on a machine reached from a fresh one this never occurs."
-  pub unrefused : (window registers : ℕ) (program memory : List ℕ) → setUpRefusal window registers (length program) (length memory) ≡ 0
-      → (events : List Event)
-      → let start : World = started window registers (length program) (length memory) memory in
+  pub unrefused : (s : Setup) (program memory : List ℕ) → Accepted s program memory → (events : List Event)
+      → let start : World = started s memory in
       drainOf program (makeAll program events start) .number ≡ 0

@@ -4,10 +4,12 @@ use mathlib.Core.Path.{_≡_}
 use mathlib.Core.Bool.{false}
 use mathlib.Core.List.{List, [], _∷_}
 use lib.Dec.{eqb}
-use lib.ListN.{replicate}
+use lib.ListN.{length, replicate}
 use Rattle.isa.specs.Reads.{choose}
 use Rattle.execution.specs.Execute.{onward}
 use Rattle.reference.specs.Step.{State, state}
+use Rattle.ranges.specs.Sizes.{setUpRefusal}
+use Rattle.ranges.specs.declared.Setup.{Setup}
 use Rattle.core.specs.SetUp.{freshMachine}
 use Rattle.core.specs.Call.{lengthsDiffer}
 use Rattle.core.specs.declared.Core.{Core}
@@ -47,9 +49,15 @@ unfoldable pub acceptedCommits : List ℕ → List Event → World → ℕ
 acceptedCommits program [] w = 0
 acceptedCommits program (e ∷ events) w = acceptedCommit e (makeEvent program e w .number) + acceptedCommits program events (makeEvent program e w .world)
 
--- "on a fresh machine"; "A list starts from the machine of any accepted set-up, with a program and data of the lengths given there"
-abbrev pub started : ℕ → ℕ → ℕ → ℕ → List ℕ → World
-started window registers program bytes memory = record { core = freshMachine window registers program bytes; memory = memory }
+-- "A list starts from the machine of any accepted set-up, with a program and data of the lengths given there"
+pub record Accepted (s : Setup) (program memory : List ℕ) : Type 0 where
+  pub set-up : setUpRefusal s ≡ 0
+  pub program-length : length program ≡ s .program
+  pub data-length : length memory ≡ s .bytes
+
+-- "on a fresh machine"
+abbrev pub started : Setup → List ℕ → World
+started s memory = record { core = freshMachine s; memory = memory }
 
 -- "from zeroed registers, address 0 and the same starting data"
 abbrev pub origin : List ℕ → State

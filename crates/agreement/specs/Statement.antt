@@ -3,13 +3,12 @@ use Prim.Native.Nat.{ℕ, _+_}
 use mathlib.Core.Path.{_≡_}
 use mathlib.Core.List.{List}
 use lib.Dec.{eqb}
-use lib.ListN.{length}
 use Rattle.isa.specs.Reads.{choose}
 use Rattle.reference.specs.Run.{Run, runOf}
-use Rattle.ranges.specs.Sizes.{setUpRefusal}
+use Rattle.ranges.specs.declared.Setup.{Setup}
 use Rattle.window.specs.Calls.{World}
 use Rattle.window.specs.Report.{reportOf}
-use Rattle.agreement.specs.Lists.{Event, makeAll, acceptedCommits, started, origin, CommitsWithin}
+use Rattle.agreement.specs.Lists.{Event, makeAll, acceptedCommits, Accepted, started, origin, CommitsWithin}
 
 -- a machine and the data after a list, with the number of its accepted commits, and the run that was asked for as many steps
 pub record Agrees (program : List ℕ) (w : World) (commits : ℕ) (run : Run) : Type 0 where
@@ -29,8 +28,7 @@ pub record Agrees (program : List ℕ) (w : World) (commits : ℕ) (run : Run) :
 -- the list is cut where it breaks off; its run is "from zeroed registers, address 0 and the same starting data, asked for as many steps as the list had accepted commits"
 abbrev pub Statement : Type 0
 Statement =
-    (window registers : ℕ) (program memory : List ℕ) → setUpRefusal window registers (length program) (length memory) ≡ 0
-    → (events : List Event)
-    → let start : World = started window registers (length program) (length memory) memory in
+    (s : Setup) (program memory : List ℕ) → Accepted s program memory → (events : List Event)
+    → let start : World = started s memory in
     let commits : ℕ = acceptedCommits program events start in
     Agrees program (makeAll program events start) commits (runOf commits program (origin memory))

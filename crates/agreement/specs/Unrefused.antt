@@ -3,15 +3,13 @@ use Prim.Native.Nat.{ℕ}
 use mathlib.Core.Path.{_≡_}
 use mathlib.Core.Bool.{true}
 use mathlib.Core.List.{List}
-use lib.ListN.{length}
-use Rattle.ranges.specs.Sizes.{setUpRefusal}
+use Rattle.ranges.specs.declared.Setup.{Setup}
 use Rattle.core.specs.Range.{machineInRange}
 use Rattle.window.specs.Calls.{World}
-use Rattle.agreement.specs.Lists.{Event, makeAll, started}
+use Rattle.agreement.specs.Lists.{Event, makeAll, Accepted, started}
 
 abbrev pub Unrefused : Type 0
 Unrefused =
-    (window registers : ℕ) (program memory : List ℕ) → setUpRefusal window registers (length program) (length memory) ≡ 0
-    → (events : List Event)
-    → let start : World = started window registers (length program) (length memory) memory in
+    (s : Setup) (program memory : List ℕ) → Accepted s program memory → (events : List Event)
+    → let start : World = started s memory in
     machineInRange (makeAll program events start .core) ≡ true

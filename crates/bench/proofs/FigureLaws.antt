@@ -7,7 +7,8 @@ use native.Mathlib.Omega.{arith}
 use borrow.Author.Tests.{eq-eqb, ne-eqb}
 use lib.ListN.{length}
 use Rattle.core.specs.SetUp.{freshMachine, setUpOf}
-use Rattle.ranges.specs.Sizes.{setUpRefusal}
+use Rattle.ranges.specs.Sizes.{setupOf, setUpRefusal}
+use Rattle.ranges.specs.declared.Setup.{Setup}
 use Rattle.window.specs.Report.{reportOf}
 use Rattle.core.specs.declared.Answer.{Answer}
 use Rattle.window.specs.declared.Report.{Report}
@@ -26,10 +27,9 @@ use Rattle.bench.specs.declared.Replayed.{Replayed}
 use Rattle.bench.proofs.RefusalLaws.{Unrefused, unrefused, head-fits}
 
 -- the machine of record 0's set-up
-set-core : (window registers program bytes : ℕ) (a : Answer) → a ≡ setUpOf window registers program bytes → setUpRefusal window registers program bytes ≡ 0
-    → a .core ≡ freshMachine window registers program bytes
+set-core : (s : Setup) (a : Answer) → a ≡ setUpOf s → setUpRefusal s ≡ 0 → a .core ≡ freshMachine s
 unfolding setUpOf
-set-core window registers program bytes a e z = ap (λ (x : Answer). x .core) e ∙ rw (eq-eqb (setUpRefusal window registers program bytes) 0 z)
+set-core s a e z = ap (λ (x : Answer). x .core) e ∙ rw (eq-eqb (setUpRefusal s) 0 z)
 
 module _ (program memory schedule : List ℕ) (none : replayRefusal program memory schedule resultLength ≡ 0) where
   abbrev facts : Unrefused program memory schedule resultLength
@@ -39,10 +39,10 @@ module _ (program memory schedule : List ℕ) (none : replayRefusal program memo
   fits = head-fits schedule (facts .head)
 
   pub ready : (window registers : ℕ) (a : Answer) → window ≡ windowIn schedule → registers ≡ registersIn schedule
-      → a ≡ setUpOf window registers (length program) (length memory) → Ready (a .core) program memory schedule
+      → a ≡ setUpOf (setupOf window registers (length program) (length memory)) → Ready (a .core) program memory schedule
   ready window registers a w n e =
       record {
-        fresh = rw (← w, ← n) (set-core window registers (length program) (length memory) a e (rw (w, n) (facts .set-up)));
+        fresh = rw (← w, ← n) (set-core (setupOf window registers (length program) (length memory)) a e (rw (w, n) (facts .set-up)));
         accepted = facts .set-up;
         fits = fits;
         chain = facts .chain;

@@ -8,9 +8,8 @@ use Rattle.window.specs.Calls.{World}
 use Rattle.agreement.specs.Lists.{acceptedCommits, origin}
 use Rattle.agreement.specs.Statement.{Agrees}
 use Rattle.agreement.proofs.Demand.{statement as demand}
-use Rattle.formats.specs.Schedule.{windowIn, registersIn}
 use Rattle.formats.specs.Chain.{eventsOf}
-use Rattle.events.specs.Play.{playedFrom, playedOf}
+use Rattle.events.specs.Play.{setupIn, playedFrom, playedOf}
 use Rattle.events.specs.Statement.{callsOf}
 use Rattle.events.proofs.Laws.{statement as event-laws}
 use Rattle.formats.specs.Result.{resultLength}
@@ -26,9 +25,9 @@ agrees program memory schedule none =
     let begun : World = playedFrom program memory schedule .world in
     let calls = callsOf (eventsOf schedule) in
     let commits : ℕ = acceptedCommits program calls begun in
-    let accepted = unrefused program memory schedule resultLength none .set-up in
+    let set-up = unrefused program memory schedule resultLength none .set-up in
     subst (λ (w : World). Agrees program w commits (runOf commits program (origin memory))) (sym (event-laws .world program (eventsOf schedule) begun))
-    (demand (windowIn schedule) (registersIn schedule) program memory accepted calls)
+    (demand (setupIn program memory schedule) program memory (record { set-up = set-up; program-length = refl; data-length = refl }) calls)
 
 committed : (program memory schedule : List ℕ) → replayRefusal program memory schedule resultLength ≡ 0
     → let commits : ℕ = acceptedCommits program (callsOf (eventsOf schedule)) (playedFrom program memory schedule .world) in

@@ -10,11 +10,12 @@ use lib.ListN.{length}
 use Rattle.isa.specs.Reads.{choose}
 use Rattle.reference.specs.Step.{when, first, lengthRefusal}
 use Rattle.ranges.specs.Sizes.{setUpRefusal}
-use Rattle.formats.specs.Schedule.{recordLength, scheduleFits, malformed, windowIn, registersIn, headRefusal}
+use Rattle.formats.specs.Schedule.{recordLength, scheduleFits, malformed, headRefusal}
 use Rattle.formats.specs.Chain.{scheduleRefusal}
 use Rattle.formats.proofs.HeadLaws.{at-least}
 use Rattle.core.proofs.RefusalLaws.{passed, both-none}
 use Rattle.formats.specs.Result.{resultLength}
+use Rattle.events.specs.Play.{setupIn}
 use Rattle.bench.specs.Replay.{replayRefusal}
 
 pub head-fits : (schedule : List ℕ) → headRefusal schedule ≡ 0 → scheduleFits (length schedule) ≡ true
@@ -30,7 +31,7 @@ alone n false z = refl
 
 module _ (program memory schedule : List ℕ) (size : ℕ) where
   abbrev set : ℕ
-  set = setUpRefusal (windowIn schedule) (registersIn schedule) (length program) (length memory)
+  set = setUpRefusal (setupIn program memory schedule)
 
   pub lengths-stop : (n : ℕ) → n ≡ lengthRefusal program memory → n ≢ 0 → n ≡ replayRefusal program memory schedule size
   unfolding replayRefusal first

@@ -8,11 +8,11 @@ use Rattle.isa.specs.Reads.{choose}
 use Rattle.reference.specs.Step.{when, first, lengthRefusal}
 use Rattle.ranges.specs.Sizes.{setUpRefusal}
 use Rattle.window.specs.Report.{reportOf}
-use Rattle.formats.specs.Schedule.{windowIn, registersIn, headRefusal}
+use Rattle.formats.specs.Schedule.{headRefusal}
 use Rattle.formats.specs.Chain.{scheduleRefusal}
 use Rattle.formats.specs.Result.{resultLength, rateOf, resultBytes}
 use Rattle.events.specs.Counts.{Played, noCounts}
-use Rattle.events.specs.Play.{playedOf}
+use Rattle.events.specs.Play.{setupIn, playedOf}
 use Rattle.bench.specs.declared.Replayed.{Replayed}
 
 -- "Replay 3, 4, 26, 20, 21, 1, 2, then, record after record along the chain, 22 and 23 for the index that leads to it and 24 and 25 for itself, all before any event."
@@ -22,7 +22,7 @@ replayRefusal program memory schedule size =
     (lengthRefusal program memory
     ∷ when (not (eqb size resultLength)) 26
     ∷ headRefusal schedule
-    ∷ setUpRefusal (windowIn schedule) (registersIn schedule) (length program) (length memory)
+    ∷ setUpRefusal (setupIn program memory schedule)
     ∷ scheduleRefusal schedule
     ∷ [])
 

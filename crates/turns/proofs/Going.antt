@@ -29,7 +29,7 @@ use Rattle.agreement.proofs.Reaching.{started-reached, reached-range, reached-l
 use Rattle.events.specs.declared.Counts.{Counts}
 use Rattle.events.specs.Counts.{callBy, commits, accepting, refusing, Played, played, playedAll, noCounts}
 use Rattle.events.specs.Numbers.{Small}
-use Rattle.events.specs.Play.{Ready, playedOf}
+use Rattle.events.specs.Play.{setupIn, Ready, playedOf}
 use Rattle.events.proofs.Laws.{one-most}
 
 -- what a chain that is not refused says of the index that leads to a record, and of the rest
@@ -121,7 +121,7 @@ begins program memory schedule m index ready e =
     record {
       rest = rw (e, ready .fresh);
       commits = 0;
-      reached = subst (λ (x : Core). Reached program (origin memory) 0 (record { core = x; memory = memory })) (sym (ready .fresh)) (started-reached _ _ program memory (ready .accepted));
+      reached = subst (λ (x : Core). Reached program (origin memory) 0 (record { core = x; memory = memory })) (sym (ready .fresh)) (started-reached (setupIn program memory schedule) program memory (record { set-up = ready .accepted; program-length = refl; data-length = refl }));
       met = [];
       chain = rw e (ready .chain);
       most = omega arith;

@@ -8,6 +8,7 @@ use Rattle.isa.specs.Reads.{instruction}
 use Rattle.isa.specs.Encodes.{wordOf}
 use Rattle.tables.specs.Table.{lookUp}
 use Rattle.tables.specs.Entry.{stateNumber}
+use Rattle.ranges.specs.Sizes.{setupOf}
 use Rattle.core.specs.SetUp.{setUpOf}
 use Rattle.core.specs.Changes.{entryAt}
 use Rattle.window.specs.Calls.{World, Made, make}
@@ -21,7 +22,7 @@ twoAddi = put (put (replicate 8 0) 0 4 (wordOf (instruction 19 1 0 0 (pos 1)))) 
 
 -- the machine of the set-up; there are no data
 abbrev pub begun : World
-begun = record { core = setUpOf 2 32 (length twoAddi) 0 .core; memory = [] }
+begun = record { core = setUpOf (setupOf 2 32 (length twoAddi) 0) .core; memory = [] }
 
 -- the machine, with the data, after these calls
 abbrev pub after : List Call → World
