@@ -10,6 +10,7 @@ use crate::Core;
 use execution::Stop;
 use ranges::Setup;
 use ranges::sizes;
+use ranges::sizes::LAST_LOGICAL;
 use ranges::sizes::MOST_ENTRIES;
 use tables::PLACES;
 use tables::entries;
@@ -243,7 +244,7 @@ fn fresh(setup: Setup) -> Core
     let mut registerlink = [0u8; PLACES];
     let mut namelink = [0u8; PLACES];
     rise(&mut registerlink, setup.registers);
-    rise(&mut namelink, 31 + setup.window);
+    rise(&mut namelink, LAST_LOGICAL + setup.window);
     Core {
         setup,
         count: 0,

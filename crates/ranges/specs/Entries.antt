@@ -10,7 +10,7 @@ use Rattle.tables.specs.Entry.{isCompleted}
 use Rattle.tables.specs.declared.Operand.{Operand}
 use Rattle.tables.specs.declared.Operand.the-variants.{Zero, Waiting, Ready}
 use Rattle.tables.specs.declared.Entry.{Entry}
-use Rattle.ranges.specs.Sizes.{namesOf}
+use Rattle.ranges.specs.Sizes.{lastLogical, namesOf}
 use Rattle.ranges.specs.declared.Setup.{Setup}
 
 -- name above 31 + W, register above N
@@ -43,7 +43,7 @@ storeInRange bytes e = not (isCompleted (e .state) && eqb (e .stop .cause) 0) ||
 unfoldable pub entryInRange : Setup → Entry → Bool
 entryInRange s e =
     instructionInRange e
-    && leb (e .destination) 31
+    && leb (e .destination) lastLogical
     && leb (e .name) (namesOf (s .window))
     && leb (e .previous) (namesOf (s .window))
     && operandInRange (namesOf (s .window)) (s .registers) (e .left)

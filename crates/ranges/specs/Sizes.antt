@@ -23,9 +23,13 @@ mostRegisters = 95
 abbrev pub registersFit : ℕ → Bool
 registersFit registers = leb 32 registers && leb registers mostRegisters
 
+-- "each logical register 1–31"
+abbrev pub lastLogical : ℕ
+lastLogical = 31
+
 -- "Virtual names 1 to 31 + W."
 abbrev pub namesOf : ℕ → ℕ
-namesOf window = 31 + window
+namesOf window = lastLogical + window
 
 -- "1 W out of range; 2 N out of range; 3 program length; 4 data length"
 unfoldable pub setUpRefusal : Setup → ℕ

@@ -5,7 +5,7 @@ use mathlib.Core.List.{List}
 use lib.Dec.{leb}
 use lib.ListN.{getD}
 use Rattle.execution.specs.declared.Stop.{Stop}
-use Rattle.ranges.specs.Sizes.{namesOf}
+use Rattle.ranges.specs.Sizes.{lastLogical, namesOf}
 use Rattle.ranges.specs.declared.Setup.{Setup}
 
 -- count elements of a table, from an index on, pass a test
@@ -25,6 +25,6 @@ tablesWithin s registerhead registerlink namehead namelink physical mapname mapr
     && leb namehead (namesOf (s .window))
     && within (namesOf (s .window)) 1 (namesOf (s .window)) namelink
     && within (s .registers) 1 (namesOf (s .window)) physical
-    && within (namesOf (s .window)) 1 31 mapname
-    && within (s .registers) 1 31 mapregister
+    && within (namesOf (s .window)) 1 lastLogical mapname
+    && within (s .registers) 1 lastLogical mapregister
     && leb (halt .cause) 7

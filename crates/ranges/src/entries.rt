@@ -5,6 +5,7 @@ ghost use Prim.Native.Nat.{_≤_};
 ghost use Rattle.ranges.specs.Entries as Entries;
 ghost use Rattle.ranges.specs.Sizes.{mostEntries};
 use crate::Setup;
+use crate::sizes::LAST_LOGICAL;
 use isa::Instruction;
 use tables::Entry;
 use tables::Operand;
@@ -65,11 +66,11 @@ pub fn entry_in_range(s: Setup, e: Entry) -> bool
     requires { ⌜ s .window ≤ mostEntries ⌝ }
     ensures { λ r. ⌜ r ≡ Entries.entryInRange s e ⌝ }
 {
-    let names = 31 + s.window;
+    let names = LAST_LOGICAL + s.window;
     let left = e.left;
     let right = e.right;
     instruction_in_range(e)
-        & (e.destination <= 31)
+        & (e.destination <= LAST_LOGICAL)
         & (e.name <= names)
         & (e.previous <= names)
         & operand_in_range(names, s.registers, left)

@@ -4,10 +4,14 @@ ghost use Rattle.ranges.specs.Sizes.{setupOf, windowFits, registersFit, 
 use crate::Setup;
 use reference::lengths;
 
-// the largest window, and the most physical registers
+// the entries of the largest window
 pub const MOST_ENTRIES: usize = 64;
 
+// the most physical registers
 pub const MOST_REGISTERS: usize = 95;
+
+// the last logical register
+pub const LAST_LOGICAL: u8 = 31;
 
 fn window_fits(window: u32) -> bool
     ensures { λ r. ⌜ r ≡ windowFits window ⌝ }

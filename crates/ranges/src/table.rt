@@ -6,6 +6,7 @@ ghost use Rattle.ranges.specs.Tables as Tables;
 ghost use Rattle.tables.specs.Table.{places};
 ghost use Rattle.ranges.specs.Sizes.{mostEntries, mostRegisters};
 use crate::Setup;
+use crate::sizes::LAST_LOGICAL;
 use execution::Stop;
 use tables::PLACES;
 
@@ -39,13 +40,13 @@ pub fn tables_in_range<'a>(
     ensures { λ r. ⌜ r ≡ Tables.tablesWithin s registerhead (now (registerlink .entry)) namehead (now (namelink .entry)) (now (physical .entry)) (now (mapname .entry)) (now (mapregister .entry)) halt ⌝ }
 {
     let registers = s.registers;
-    let names = 31 + s.window;
+    let names = LAST_LOGICAL + s.window;
     (registerhead <= registers)
         & within(registers, registers as usize, registerlink)
         & (namehead <= names)
         & within(names, names as usize, namelink)
         & within(registers, names as usize, physical)
-        & within(names, 31, mapname)
-        & within(registers, 31, mapregister)
+        & within(names, LAST_LOGICAL as usize, mapname)
+        & within(registers, LAST_LOGICAL as usize, mapregister)
         & (halt.cause <= 7)
 }

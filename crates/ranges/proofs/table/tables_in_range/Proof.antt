@@ -24,8 +24,14 @@ cast-within-3 c = search needs
 within-requires-3 : tie.Need-within-requires-3
 within-requires-3 c κs = search needs
 
+cast-within-4 : tie.Need-cast-within-4
+cast-within-4 c = search needs
+
 within-requires-4 : tie.Need-within-requires-4
 within-requires-4 c κs = search needs
+
+cast-within-5 : tie.Need-cast-within-5
+cast-within-5 c = search needs
 
 within-requires-5 : tie.Need-within-requires-5
 within-requires-5 c κs = search needs
@@ -46,6 +52,8 @@ tables-in-range-spec =
     within-requires-2
     cast-within-3
     within-requires-3
+    cast-within-4
     within-requires-4
+    cast-within-5
     within-requires-5
     returns)
