@@ -27,23 +27,60 @@ def copied(folder, programs, first="differ "):
         write(path, read(path).split(first)[0] + "?")
 
 
+def misfit(text, edit):
+    """Why the edit cannot be made in this text; None where it can."""
+    name, old, new, *times = edit
+    if old is not None and [text.count(old)] != (times or [1]):
+        return "%s has %d times: %s" % (name, text.count(old), old)
+    return None
+
+
 def edited(folder, edits):
     """Makes the edits, and hands back what the files held before. An edit is a file below crates, the old text and the
     new one, and how often the old text occurs, if not once. With None as old text the file gets the new one, or goes."""
     before = {}
-    for name, old, new, *times in edits:
+    for edit in edits:
+        name, old, new = edit[:3]
         path = os.path.join(folder, "crates", name)
         text = read(path)
         before.setdefault(path, text)
+        if misfit(text, edit):
+            raise SystemExit(misfit(text, edit))
         if old is None and new is None:
             os.remove(path)
-        elif old is None:
-            write(path, new)
-        elif [text.count(old)] == (times or [1]):
-            write(path, text.replace(old, new))
         else:
-            raise SystemExit("%s has %d times: %s" % (name, text.count(old), old))
+            write(path, new if old is None else text.replace(old, new))
     return before
+
+
+def misfits(edits):
+    """Why edits, made one after the other, do not fit the crates as they are. Nothing is written."""
+    texts = {}
+    for edit in edits:
+        name, old, new = edit[:3]
+        path = os.path.join(ROOT, "crates", name)
+        if not os.path.isfile(path):
+            yield "%s is not there" % name
+            continue
+        text = texts.setdefault(name, read(path))
+        why = misfit(text, edit)
+        if why:
+            yield why
+        else:
+            texts[name] = (new or "") if old is None else text.replace(old, new)
+
+
+def unlisted(document, names):
+    """The names that start no row of a table of the document, where dashes and minus signs are set."""
+    text = re.sub("[−–]", "-", read(os.path.join(ROOT, "docs", document)))
+    return ["%s has no row: %s" % (document, name) for name in names if "\n| %s |" % name not in text]
+
+
+def checked(rows, told=()):
+    """Ends the script: it fails where the edits of a row, a pair of its name and its edits, do not fit the code."""
+    told = list(told) + ["%s: %s" % (name, why) for name, edits in rows for why in misfits(edits)]
+    print("\n".join(told) or "every row fits")
+    raise SystemExit(1 if told else 0)
 
 
 def restored(before):
