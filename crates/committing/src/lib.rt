@@ -77,7 +77,7 @@ fn stopped(core: Core, stop: Stop) -> Core
     emptied
 }
 
-// Commit, where 5 and 6 do not apply.
+// Commit, where 5 and 6 do not apply. Inner: `window` uses it.
 pub fn commit_within(core: Core, data: &mut [u8]) -> Answer
     requires { ⌜ machineInRange core ≡ true ⌝ }
     ensures { λ r. ⌜ Commit.commitWithin (now («data» .entry)) core ≡ record { answer = r; memory = now («data» .exit) } ⌝ }

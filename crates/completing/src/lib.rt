@@ -157,7 +157,7 @@ fn completed(mut core: Core, position: usize) -> Core
     redirected(next, position, outcome.next)
 }
 
-// Complete, where 5 and 6 do not apply.
+// Complete, where 5 and 6 do not apply. Inner: `window` uses it.
 pub fn complete_within(core: Core, position: usize) -> Answer
     requires { ⌜ machineInRange core ≡ true ⌝ }
     ensures { λ r. ⌜ r ≡ Complete.completeWithin position core ⌝ }

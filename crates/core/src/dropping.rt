@@ -9,7 +9,7 @@ use tables::maps;
 
 impl Core {
     // The oldest entries alone, so many: with position + 1 kept, all younger than the position are dropped. Each drop is made
-    // in place, since a function that takes and returns the machine copies it twice.
+    // in place, since a function that takes and returns the machine copies it twice. Inner: the calls and the report use it.
     pub fn drop_to(mut self, kept: u8) -> Core
         requires { ⌜ self .count ≤ mostEntries ⌝ }
         ensures { λ r. ⌜ r ≡ Drop.dropTo kept self ⌝ }

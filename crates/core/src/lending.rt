@@ -3,7 +3,7 @@ ghost use Rattle.core.specs.Call as Call;
 use crate::Core;
 
 impl Core {
-    // What whoever holds a machine meets: 5, then 6.
+    // What whoever holds a machine meets: 5, then 6. Inner: the calls use it.
     pub fn lent_refusal(self, program: &[u8], data: &[u8]) -> u8
         ensures { λ r. ⌜ r ≡ Call.lentRefusal self (now (program .entry)) (now («data» .entry)) ⌝ }
     {

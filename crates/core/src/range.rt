@@ -25,7 +25,7 @@ impl Core {
         good
     }
 
-    // Whether refusal 5 does not apply.
+    // Whether refusal 5 does not apply. Inner: the calls and the report use it.
     pub fn in_range(self) -> bool
         ensures { λ r. ⌜ r ≡ Range.machineInRange self ⌝ }
     {

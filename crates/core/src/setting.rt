@@ -266,7 +266,7 @@ fn fresh(setup: Setup) -> Core
 
 impl Core {
     // A fresh machine for a window of 1 to 64 entries, 32 to 95 physical registers and these lengths of program and
-    // data; refused by 1 to 4, a machine of zeros.
+    // data; refused by 1 to 4, a machine of zeros. Inner: `window` and replay use it.
     pub fn set_up(window: u32, registers: u32, program: usize, bytes: usize) -> Answer
         ensures { λ r. ⌜ r ≡ setUpOf (setupOf window registers program bytes) ⌝ }
     {

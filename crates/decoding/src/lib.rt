@@ -109,7 +109,7 @@ fn waiting(
     }
 }
 
-// the head of the pool of names, after an entry with this destination took it
+// the head of the pool of names, after an entry with this destination took it. Inner: this crate and replay's loop use it.
 pub fn head_after(destination: u8, head: u8, next: u8) -> u8
     ensures { λ r. ⌜ r ≡ choose (eqb destination 0) head next ⌝ }
 {
@@ -151,6 +151,7 @@ fn started<'a>(
 }
 
 // The entry that decode enters, by the general map, the head of the pool of names and the fetch address.
+// Inner: this crate and replay's loop use it.
 pub fn entry_for<'a>(
     mapname: &'a [u8; 32],
     mapregister: &'a [u8; 32],
@@ -203,7 +204,7 @@ fn enter(core: Core, e: Entry) -> Core
     entered
 }
 
-// Decode, where 5 and 6 do not apply.
+// Decode, where 5 and 6 do not apply. Inner: `window` uses it.
 pub fn decode_within(core: Core, program: &[u8], guess: u32) -> Answer
     requires { ⌜ core .setup .window ≤ mostEntries ⌝ }
     ensures { λ r. ⌜ r ≡ Decode.decodeWithin (now (program .entry)) guess core ⌝ }

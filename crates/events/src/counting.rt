@@ -5,6 +5,7 @@ ghost use Rattle.events.specs.Counts as Count;
 ghost use Rattle.events.specs.Numbers as Numbers;
 use crate::Counts;
 
+// Inner: replay's loop uses it.
 pub fn accepted(c: Counts, committed: u32, steals: u32, dropped: u32) -> Counts
     requires { ⌜ Numbers.Small 100_000_000 c × (committed ≤ 1) × (steals ≤ 1) × (dropped ≤ 255) ⌝ }
     ensures { λ r. ⌜ r ≡ Numbers.adding committed steals dropped c ⌝ }
@@ -18,6 +19,7 @@ pub fn accepted(c: Counts, committed: u32, steals: u32, dropped: u32) -> Counts
     }
 }
 
+// Inner: replay's loop uses it.
 pub fn refused(c: Counts) -> Counts
     requires { ⌜ Numbers.Small 100_000_000 c ⌝ }
     ensures { λ r. ⌜ r ≡ Count.refusing c ⌝ }

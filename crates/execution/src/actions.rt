@@ -30,6 +30,7 @@ pub const LOAD_UNSIGNED: u8 = 9;
 
 pub const STORE: u8 = 10;
 
+// Inner: the step and the calls use it.
 pub fn class(operation: usize) -> u8
     requires { ⌜ operation ≤ last ⌝ }
     ensures { λ r. ⌜ r ≡ getD classes operation 0 ⌝ }
@@ -46,6 +47,7 @@ pub fn class(operation: usize) -> u8
     }
 }
 
+// Inner: the step and the calls use it.
 pub fn kind(operation: usize) -> u8
     requires { ⌜ operation ≤ last ⌝ }
     ensures { λ r. ⌜ r ≡ getD kinds operation 0 ⌝ }

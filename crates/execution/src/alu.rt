@@ -36,6 +36,7 @@ pub const LTU: u8 = 4;
 
 pub const GEU: u8 = 5;
 
+// Inner: the step and the calls use it.
 pub fn compute(kind: u8, a: u32, b: u32) -> u32
     ensures { λ r. ⌜ r ≡ Execute.compute (aluAt kind) a b ⌝ }
 {
@@ -53,6 +54,7 @@ pub fn compute(kind: u8, a: u32, b: u32) -> u32
     }
 }
 
+// Inner: the step and the calls use it.
 pub fn holds(kind: u8, a: u32, b: u32) -> bool
     ensures { λ r. ⌜ r ≡ Execute.holds (conditionAt kind) a b ⌝ }
 {

@@ -71,7 +71,7 @@ fn accesses(bytes: usize, size: u8, cause: u8, address: u32, at: u32, result: u3
     }
 }
 
-// what an action comes to; c is the constant as a word
+// what an action comes to; c is the constant as a word. Inner: the step and the calls use it.
 pub fn perform(
     class: u8,
     kind: u8,
@@ -100,6 +100,7 @@ pub fn perform(
 }
 
 // Result, next address and stop of an instruction, from its address and the two values read.
+// Inner: the step and the calls use it.
 pub fn execute(bytes: usize, i: Instruction, address: u32, first: u32, second: u32) -> Outcome
     requires { ⌜ i .operation ≤ last ⌝ }
     ensures { λ r. ⌜ r ≡ Execute.executed bytes i address first second ⌝ }

@@ -9,7 +9,7 @@ ghost use Rattle.execution.specs.Memory as Memory;
 use crate::actions;
 use isa::Instruction;
 
-// whether the access is aligned and stays within the memory's bytes
+// whether the access is aligned and stays within the memory's bytes. Inner: the step and the calls use it.
 pub fn accessible(bytes: usize, address: u32, size: u8) -> bool
     requires { ⌜ 0 < size ⌝ }
     ensures { λ r. ⌜ r ≡ Memory.accessible bytes address size ⌝ }
@@ -50,7 +50,7 @@ fn load_unsigned(data: &[u8], address: u32, size: u8) -> u32
     word::load(data, address as usize, size as usize)
 }
 
-// the second value of an action: what a load finds in the data, else the operand's
+// the second value of an action: what a load finds in the data, else the operand's. Inner: the step and the calls use it.
 pub fn second_by(class: u8, size: u8, data: &[u8], address: u32, second: u32) -> u32
     requires { ⌜ Sized class size ⌝ }
     ensures { λ r. ⌜ r ≡ Memory.secondBy (actionAt class size) (length (now («data» .entry))) address second (byteOf (now («data» .entry))) ⌝ }
@@ -64,7 +64,7 @@ pub fn second_by(class: u8, size: u8, data: &[u8], address: u32, second: u32) ->
     second
 }
 
-// The second value that an instruction reads.
+// The second value that an instruction reads. Inner: the step and the calls use it.
 pub fn second_value(i: Instruction, data: &[u8], first: u32, second: u32) -> u32
     requires { ⌜ i .operation ≤ last ⌝ }
     ensures { λ r. ⌜ r ≡ Memory.secondValue i first second (now («data» .entry)) ⌝ }
@@ -75,7 +75,8 @@ pub fn second_value(i: Instruction, data: &[u8], first: u32, second: u32) -> u32
     second_by(class, size, data, effective(i, first), second)
 }
 
-// the data after an action: a store whose bytes stay within them writes them, others leave them
+// the data after an action: a store whose bytes stay within them writes them, others leave them.
+// Inner: the step and the calls use it.
 pub fn store_by(class: u8, size: u8, data: &mut [u8], address: u32, second: u32)
     requires { ⌜ Sized class size ⌝ }
     ensures { λ r. ⌜ now («data» .exit) ≡ Memory.storedBy (actionAt class size) address second (now («data» .entry)) ⌝ }
@@ -89,7 +90,7 @@ pub fn store_by(class: u8, size: u8, data: &mut [u8], address: u32, second: u32)
     }
 }
 
-// The data after a store; other instructions leave them.
+// The data after a store; other instructions leave them. Inner: the step and the calls use it.
 pub fn store(i: Instruction, data: &mut [u8], first: u32, second: u32)
     requires { ⌜ i .operation ≤ last ⌝ }
     ensures { λ r. ⌜ now («data» .exit) ≡ Memory.stored i first second (now («data» .entry)) ⌝ }
@@ -100,7 +101,7 @@ pub fn store(i: Instruction, data: &mut [u8], first: u32, second: u32)
     store_by(class, size, data, effective(i, first), second);
 }
 
-// whether a store's bytes stay within the memory's; other instructions have none
+// whether a store's bytes stay within the memory's; other instructions have none. Inner: the step and the calls use it.
 pub fn store_ends_within(bytes: usize, i: Instruction, first: u32) -> bool
     requires { ⌜ i .operation ≤ last ⌝ }
     ensures { λ r. ⌜ r ≡ Memory.storeEndsWithin bytes i first ⌝ }

@@ -7,6 +7,7 @@ use crate::Stop;
 use crate::actions;
 use isa::Instruction;
 
+// Inner: the step and the calls use it.
 pub fn is_load(i: Instruction) -> bool
     requires { ⌜ i .operation ≤ last ⌝ }
     ensures { λ r. ⌜ r ≡ Roles.loads i ⌝ }
@@ -15,6 +16,7 @@ pub fn is_load(i: Instruction) -> bool
     (class == actions::LOAD_SIGNED) | (class == actions::LOAD_UNSIGNED)
 }
 
+// Inner: the step and the calls use it.
 pub fn is_store(i: Instruction) -> bool
     requires { ⌜ i .operation ≤ last ⌝ }
     ensures { λ r. ⌜ r ≡ Roles.stores i ⌝ }
@@ -22,7 +24,7 @@ pub fn is_store(i: Instruction) -> bool
     actions::class(i.operation as usize) == actions::STORE
 }
 
-// the stop of ECALL and EBREAK, without a cause for all that execute
+// the stop of ECALL and EBREAK, without a cause for all that execute. Inner: the step and the calls use it.
 pub fn stop_at_once(i: Instruction) -> Stop
     requires { ⌜ i .operation ≤ last ⌝ }
     ensures { λ r. ⌜ r ≡ Roles.stopAtOnce i ⌝ }
@@ -35,7 +37,7 @@ pub fn stop_at_once(i: Instruction) -> Stop
     Stop { cause: 0 }
 }
 
-// the guess for branches and JALR, the target for JAL, else the address after
+// the guess for branches and JALR, the target for JAL, else the address after. Inner: the step and the calls use it.
 pub fn predicted_next(i: Instruction, address: u32, guess: u32) -> u32
     requires { ⌜ i .operation ≤ last ⌝ }
     ensures { λ r. ⌜ r ≡ Roles.predictedNext i address guess ⌝ }

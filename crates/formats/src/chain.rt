@@ -35,7 +35,7 @@ fn record_refusal(r: Record) -> u8
 }
 
 // The first refusal along the chain, 0 for none. A record met is marked, so that one reached twice is seen;
-// no schedule has more than MOST_RECORDS, and no chain more turns than records.
+// no schedule has more than MOST_RECORDS, and no chain more turns than records. Inner: replay uses it.
 pub fn chain_refusal(schedule: &[u8]) -> u8
     requires { ⌜ scheduleFits (length (now schedule)) ≡ true ⌝ }
     ensures { λ r. ⌜ r ≡ Chain.scheduleRefusal (now (schedule .entry)) ⌝ }

@@ -8,7 +8,7 @@ pub const RESULT_WORDS: usize = 39;
 
 pub const RESULT_LENGTH: usize = 4 * RESULT_WORDS;
 
-// the words in the lent bytes, each with its lowest byte first
+// the words in the lent bytes, each with its lowest byte first. Inner: replay uses it.
 pub fn lay(words: [u32; RESULT_WORDS], result: &mut [u8])
     requires { ⌜ length (now result) ≡ resultLength ⌝ }
     ensures { λ r. ⌜ now (result .exit) ≡ resultBytes words ⌝ }
@@ -20,7 +20,7 @@ pub fn lay(words: [u32; RESULT_WORDS], result: &mut [u8])
     }
 }
 
-// committed in 1,000 accepted calls, rounded to the nearest
+// committed in 1,000 accepted calls, rounded to the nearest. Inner: replay uses it.
 pub fn rate(committed: u32, accepted: u32) -> u32
     requires { ⌜ (committed ≤ longest) × (accepted ≤ longest) ⌝ }
     ensures { λ r. ⌜ r ≡ rateOf committed accepted ⌝ }

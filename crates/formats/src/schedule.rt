@@ -8,7 +8,7 @@ pub const RECORD_LENGTH: usize = 8;
 
 pub const LONGEST: usize = 65_536;
 
-// the record at an index; replay calls it once an event
+// the record at an index; replay calls it once an event. Inner: replay uses it.
 pub fn record_at(schedule: &[u8], index: usize) -> Record
     requires { ⌜ Schedule.recordLength * index + Schedule.recordLength ≤ length (now schedule) ⌝ }
     ensures { λ r. ⌜ r ≡ Schedule.recordAt (now (schedule .entry)) index ⌝ }
@@ -22,7 +22,7 @@ pub fn record_at(schedule: &[u8], index: usize) -> Record
     }
 }
 
-// refusal 20 for the length, 21 for record 0, 0 for none
+// refusal 20 for the length, 21 for record 0, 0 for none. Inner: replay uses it.
 pub fn head_refusal(schedule: &[u8]) -> u8
     ensures { λ r. ⌜ r ≡ Schedule.headRefusal (now (schedule .entry)) ⌝ }
 {
@@ -40,7 +40,7 @@ pub fn head_refusal(schedule: &[u8]) -> u8
     0
 }
 
-// W, out of record 0
+// W, out of record 0. Inner: replay uses it.
 pub fn window_in(schedule: &[u8]) -> u8
     requires { ⌜ Schedule.recordLength ≤ length (now schedule) ⌝ }
     ensures { λ r. ⌜ r ≡ Schedule.windowIn (now (schedule .entry)) ⌝ }
@@ -48,7 +48,7 @@ pub fn window_in(schedule: &[u8]) -> u8
     word::load(schedule, 1, 1) as u8
 }
 
-// N, out of record 0
+// N, out of record 0. Inner: replay uses it.
 pub fn registers_in(schedule: &[u8]) -> u8
     requires { ⌜ Schedule.recordLength ≤ length (now schedule) ⌝ }
     ensures { λ r. ⌜ r ≡ Schedule.registersIn (now (schedule .entry)) ⌝ }
@@ -56,7 +56,7 @@ pub fn registers_in(schedule: &[u8]) -> u8
     word::load(schedule, 4, 1) as u8
 }
 
-// where the chain starts, 0 where there is none
+// where the chain starts, 0 where there is none. Inner: replay uses it.
 pub fn first_index(schedule: &[u8]) -> u16
     requires { ⌜ Schedule.recordLength ≤ length (now schedule) ⌝ }
     ensures { λ r. ⌜ r ≡ Schedule.firstIndex (now (schedule .entry)) ⌝ }

@@ -8,7 +8,7 @@ use crate::limits;
 use crate::listing;
 use crate::placing;
 
-// whether the encoder accepts the instruction
+// whether the encoder accepts the instruction. Inner: `encode` and refusal 5 use it.
 pub fn accepts(i: Instruction) -> bool
     ensures { λ r. ⌜ r ≡ accepted i ⌝ }
 {

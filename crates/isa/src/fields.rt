@@ -80,7 +80,7 @@ fn constant(format: u8, word: u32) -> i32
     }
 }
 
-// the instruction in the word, by its format
+// the instruction in the word, by its format. Inner: `read` uses it.
 pub fn fields(format: u8, operation: u8, word: u32) -> Instruction
     ensures { λ r. ⌜ r ≡ fieldsOf (formatAt format) operation word ⌝ }
 {

@@ -19,7 +19,7 @@ fn within(i: Instruction, rd: u8, rs1: u8, rs2: u8, low: i32, high: i32, step: u
         & (word::to_word(c) % step == 0)
 }
 
-// whether the fields lie in the format's ranges
+// whether the fields lie in the format's ranges. Inner: `encode` and refusal 5 use it.
 pub fn in_range(format: u8, i: Instruction) -> bool
     ensures { λ r. ⌜ r ≡ Encodes.within (Encodes.limitsOf (formatAt format)) i ⌝ }
 {

@@ -25,6 +25,7 @@ pub const J: u8 = 6;
 
 pub const SHIFT: u8 = 7;
 
+// Inner: `read` and `encode` use it.
 pub fn format(operation: usize) -> u8
     requires { ⌜ operation ≤ last ⌝ }
     ensures { λ r. ⌜ r ≡ getD codes operation 0 ⌝ }
@@ -73,6 +74,7 @@ pub fn format(operation: usize) -> u8
     }
 }
 
+// Inner: `read` and `encode` use it.
 pub fn fixed(operation: usize) -> u32
     requires { ⌜ operation ≤ last ⌝ }
     ensures { λ r. ⌜ r ≡ getD fixedBits operation 0 ⌝ }

@@ -44,7 +44,7 @@ fn fixed_part(format: u8, word: u32) -> u32
     }
 }
 
-// the operation whose fixed bits the word has, or 0
+// the operation whose fixed bits the word has, or 0. Inner: `read` uses it.
 pub fn find(word: u32) -> u8
     ensures { λ r. ⌜ (r ≡ operationOf word) × (r ≤ last) ⌝ }
 {

@@ -54,7 +54,7 @@ fn assemble(fixed: u32, rd: u32, rs1: u32, rs2: u32, constant: u32) -> u32
     fixed + rd * 0x80 + rs1 * 0x8000 + rs2 * 0x10_0000 + constant
 }
 
-// the word of an instruction that the encoder accepts
+// the word of an instruction that the encoder accepts. Inner: `encode` uses it.
 pub fn write(i: Instruction) -> u32
     requires { ⌜ accepted i ≡ true ⌝ }
     ensures { λ r. ⌜ r ≡ wordOf i ⌝ }

@@ -83,7 +83,7 @@ fn issued(mut core: Core, data: &[u8], position: usize) -> Core
     core
 }
 
-// Issue, where 5 and 6 do not apply.
+// Issue, where 5 and 6 do not apply. Inner: `window` uses it.
 pub fn issue_within(core: Core, data: &[u8], position: usize) -> Answer
     requires { ⌜ machineInRange core ≡ true ⌝ }
     ensures { λ r. ⌜ r ≡ Issue.issueWithin (now («data» .entry)) position core ⌝ }

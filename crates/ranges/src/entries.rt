@@ -62,6 +62,7 @@ fn store_in_range(bytes: u16, e: Entry) -> bool
     !(entries::is_completed(e) & (stop.cause == 0)) | ends_within(bytes, i, e.first)
 }
 
+// Inner: refusal 5 uses it.
 pub fn entry_in_range(s: Setup, e: Entry) -> bool
     requires { ⌜ s .window ≤ mostEntries ⌝ }
     ensures { λ r. ⌜ r ≡ Entries.entryInRange s e ⌝ }

@@ -25,7 +25,7 @@ fn registers_fit(registers: u32) -> bool
     (32 <= registers) & (registers <= MOST_REGISTERS as u32)
 }
 
-// refusals 1 to 4, or 0
+// refusals 1 to 4, or 0. Inner: set-up and replay use it.
 pub fn refusal(window: u32, registers: u32, program: usize, bytes: usize) -> u8
     ensures { λ r. ⌜ r ≡ setUpRefusal (setupOf window registers program bytes) ⌝ }
 {
@@ -38,6 +38,7 @@ pub fn refusal(window: u32, registers: u32, program: usize, bytes: usize) -> u8
     lengths::refusal_of(program, bytes)
 }
 
+// Inner: refusal 5 uses it.
 pub fn setup_in_range(s: Setup) -> bool
     ensures { λ r. ⌜ r ≡ setupInRange s ⌝ }
 {

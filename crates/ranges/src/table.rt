@@ -24,7 +24,7 @@ fn within(limit: u8, count: usize, table: &[u8]) -> bool
     good
 }
 
-// heads and links of the pools, the physical map, the general map, the halt's cause
+// heads and links of the pools, the physical map, the general map, the halt's cause. Inner: refusal 5 uses it.
 pub fn tables_in_range<'a>(
     s: Setup,
     registerhead: u8,

@@ -1,19 +1,21 @@
 ghost use mathlib.Core.Path.{_≡_};
 ghost use Rattle.reference.specs.Step.{programFits, dataFits, lengthsRefusal, lengthRefusal};
 
+// Inner: step, run, set-up and replay use it.
 pub fn program_fits(bytes: usize) -> bool
     ensures { λ r. ⌜ r ≡ programFits bytes ⌝ }
 {
     (4 <= bytes) & (bytes <= 16_384) & (bytes % 4 == 0)
 }
 
+// Inner: step, run, set-up and replay use it.
 pub fn data_fits(bytes: usize) -> bool
     ensures { λ r. ⌜ r ≡ dataFits bytes ⌝ }
 {
     bytes <= 16_384
 }
 
-// refusal 3 for a program's length, 4 for the data's, 0 for none
+// refusal 3 for a program's length, 4 for the data's, 0 for none. Inner: step, run, set-up and replay use it.
 pub fn refusal_of(program: usize, bytes: usize) -> u8
     ensures { λ r. ⌜ r ≡ lengthsRefusal program bytes ⌝ }
 {
@@ -26,6 +28,7 @@ pub fn refusal_of(program: usize, bytes: usize) -> u8
     0
 }
 
+// Inner: step, run, set-up and replay use it.
 pub fn refusal(program: &[u8], data: &[u8]) -> u8
     ensures { λ r. ⌜ r ≡ lengthRefusal (now (program .entry)) (now («data» .entry)) ⌝ }
 {

@@ -37,6 +37,7 @@ pub fn illegal() -> Stop
 }
 
 // The instruction at an address, or a stop: 4 outside the program or not a multiple of 4, 1 illegal.
+// Inner: step and run use it.
 pub fn fetch(program: &[u8], address: u32) -> Fetching
     ensures { λ r. ⌜ fetchNumbers r ≡ fetchAt (now (program .entry)) address ⌝ }
 {

@@ -41,7 +41,7 @@ fn make(i: Instruction, data: &mut [u8], registers: &mut [u32; 32], address: u32
     }
 }
 
-// one step on lent registers and data
+// one step on lent registers and data. Inner: step and run use it.
 pub fn advance(program: &[u8], data: &mut [u8], registers: &mut [u32; 32], address: u32) -> Advance
     requires { ⌜ length (now registers) ≡ 32 ⌝ }
     ensures { λ r. ⌜ Step.stepOf (now (program .entry)) (Step.state (now (registers .entry)) address (now («data» .entry))) ≡ Step.reached (now (registers .exit)) (r .address) (now («data» .exit)) (r .stop) ⌝ }

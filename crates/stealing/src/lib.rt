@@ -9,7 +9,8 @@ use core::Core;
 use tables::entries;
 use tables::maps;
 
-// the youngest entry that holds a register, if it is younger than the caller; else the caller's position
+// the youngest entry that holds a register, if it is younger than the caller; else the caller's position.
+// Inner: complete uses it.
 pub fn victim(core: Core, position: usize) -> usize
     requires { ⌜ (position < core .count) × (core .count ≤ mostEntries) ⌝ }
     ensures { λ r. ⌜ r ≡ Steal.victimOf core position ⌝ }
@@ -43,7 +44,7 @@ fn sleep_all(mut core: Core, name: u8) -> Core
     core
 }
 
-// the victim waits again, and its name has no register any more
+// the victim waits again, and its name has no register any more. Inner: complete uses it.
 pub fn robbed(mut core: Core, victim: usize) -> Core
     requires { ⌜ (victim < core .count) × (core .count ≤ mostEntries) ⌝ }
     ensures { λ r. ⌜ r ≡ Steal.robbed victim core ⌝ }

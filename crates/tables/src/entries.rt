@@ -13,7 +13,7 @@ use crate::operands;
 use execution::Stop;
 use isa::Instruction;
 
-// a place past the last entry
+// a place past the last entry. Inner: the calls and replay's loop use it.
 pub fn empty() -> Entry
     ensures { λ r. ⌜ r ≡ Entries.emptyEntry ⌝ }
 {
@@ -63,7 +63,7 @@ fn with_operands(e: Entry, left: Operand, right: Operand) -> Entry
     }
 }
 
-// its operands on this name are ready with this register
+// its operands on this name are ready with this register. Inner: the calls and replay's loop use it.
 pub fn wake(e: Entry, name: u8, register: u8) -> Entry
     ensures { λ r. ⌜ r ≡ Entries.wakeEntry name register e ⌝ }
 {
@@ -76,7 +76,7 @@ pub fn wake(e: Entry, name: u8, register: u8) -> Entry
     )
 }
 
-// its operands on this name are waiting again
+// its operands on this name are waiting again. Inner: the calls and replay's loop use it.
 pub fn sleep(e: Entry, name: u8) -> Entry
     ensures { λ r. ⌜ r ≡ Entries.sleepEntry name e ⌝ }
 {
@@ -117,7 +117,7 @@ fn entry_with(
     }
 }
 
-// issued, with the values that it read
+// issued, with the values that it read. Inner: the calls and replay's loop use it.
 pub fn issued(e: Entry, first: u32, second: u32) -> Entry
     ensures { λ r. ⌜ r ≡ Entries.issuedEntry first second e ⌝ }
 {
@@ -125,7 +125,7 @@ pub fn issued(e: Entry, first: u32, second: u32) -> Entry
     entry_with(e, State::Issued, first, second, e.result, stop, e.predicted)
 }
 
-// completed with a cause: nothing else changes
+// completed with a cause: nothing else changes. Inner: the calls and replay's loop use it.
 pub fn stopped(e: Entry, stop: Stop) -> Entry
     ensures { λ r. ⌜ r ≡ Entries.stoppedEntry stop e ⌝ }
 {
@@ -140,6 +140,7 @@ pub fn stopped(e: Entry, stop: Stop) -> Entry
     )
 }
 
+// Inner: the calls and replay's loop use it.
 pub fn completed(e: Entry, result: u32) -> Entry
     ensures { λ r. ⌜ r ≡ Entries.completedEntry result e ⌝ }
 {
@@ -155,13 +156,14 @@ pub fn completed(e: Entry, result: u32) -> Entry
     )
 }
 
-// robbed: it waits again, with zero values and result
+// robbed: it waits again, with zero values and result. Inner: the calls and replay's loop use it.
 pub fn waiting(e: Entry) -> Entry
     ensures { λ r. ⌜ r ≡ Entries.waitingEntry e ⌝ }
 {
     entry_with(e, State::Waits, 0, 0, 0, Stop { cause: 0 }, e.predicted)
 }
 
+// Inner: the calls and replay's loop use it.
 pub fn predicted(e: Entry, next: u32) -> Entry
     ensures { λ r. ⌜ r ≡ Entries.predictedEntry next e ⌝ }
 {
@@ -170,6 +172,7 @@ pub fn predicted(e: Entry, next: u32) -> Entry
     entry_with(e, state, e.first, e.second, e.result, stop, next)
 }
 
+// Inner: the calls and replay's loop use it.
 pub fn is_waiting(e: Entry) -> bool
     ensures { λ r. ⌜ r ≡ Entries.isWaiting (e .state) ⌝ }
 {
@@ -181,6 +184,7 @@ pub fn is_waiting(e: Entry) -> bool
     }
 }
 
+// Inner: the calls and replay's loop use it.
 pub fn is_issued(e: Entry) -> bool
     ensures { λ r. ⌜ r ≡ Entries.isIssued (e .state) ⌝ }
 {
@@ -192,6 +196,7 @@ pub fn is_issued(e: Entry) -> bool
     }
 }
 
+// Inner: the calls and replay's loop use it.
 pub fn is_completed(e: Entry) -> bool
     ensures { λ r. ⌜ r ≡ Entries.isCompleted (e .state) ⌝ }
 {
@@ -203,7 +208,7 @@ pub fn is_completed(e: Entry) -> bool
     }
 }
 
-// whether both operands are ready
+// whether both operands are ready. Inner: the calls and replay's loop use it.
 pub fn is_ready(e: Entry) -> bool
     ensures { λ r. ⌜ r ≡ (isReady (e .left) && isReady (e .right)) ⌝ }
 {
@@ -212,7 +217,7 @@ pub fn is_ready(e: Entry) -> bool
     operands::is_ready(left) & operands::is_ready(right)
 }
 
-// the register that an entry holds, or 0
+// the register that an entry holds, or 0. Inner: the calls and replay's loop use it.
 pub fn held(physical: &[u8; PLACES], e: Entry) -> u8
     requires { ⌜ length (now physical) ≡ places ⌝ }
     ensures { λ r. ⌜ r ≡ Entries.held (now (physical .entry)) e ⌝ }

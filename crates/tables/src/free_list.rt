@@ -6,7 +6,7 @@ ghost use Rattle.tables.specs.Table.{places};
 use crate::PLACES;
 use crate::maps;
 
-// takes the head out of the chain, and hands back the next one
+// takes the head out of the chain, and hands back the next one. Inner: the calls and replay's loop use it.
 pub fn take(link: &mut [u8; PLACES], head: u8) -> u8
     requires { ⌜ length (now link) ≡ places ⌝ }
     ensures { λ r. ⌜ (r ≡ takenHead (now (link .entry)) head) × (now (link .exit) ≡ takenLink (now (link .entry)) head) ⌝ }
@@ -16,7 +16,7 @@ pub fn take(link: &mut [u8; PLACES], head: u8) -> u8
     next
 }
 
-// puts a number at the head, and hands back the head
+// puts a number at the head, and hands back the head. Inner: the calls and replay's loop use it.
 pub fn free(link: &mut [u8; PLACES], head: u8, n: u8) -> u8
     requires { ⌜ length (now link) ≡ places ⌝ }
     ensures { λ r. ⌜ (r ≡ freedHead head n) × (now (link .exit) ≡ freedLink (now (link .entry)) head n) ⌝ }

@@ -5,7 +5,7 @@ ghost use Rattle.isa.specs.Reads.{choose};
 ghost use Rattle.tables.specs.Table.{places, lookUp, storeUnder, lookValid};
 use crate::PLACES;
 
-// a name's register, or the next free number
+// a name's register, or the next free number. Inner: the calls and replay's loop use it.
 pub fn look_up(table: &[u8; PLACES], n: u8) -> u8
     requires { ⌜ length (now table) ≡ places ⌝ }
     ensures { λ r. ⌜ r ≡ lookUp (now (table .entry)) n ⌝ }
@@ -17,6 +17,7 @@ pub fn look_up(table: &[u8; PLACES], n: u8) -> u8
     if at < PLACES { table[at] } else { 0 }
 }
 
+// Inner: the calls and replay's loop use it.
 pub fn store_under(table: &mut [u8; PLACES], n: u8, value: u8)
     requires { ⌜ length (now table) ≡ places ⌝ }
     ensures { λ r. ⌜ now (table .exit) ≡ storeUnder (now (table .entry)) n value ⌝ }
@@ -29,7 +30,7 @@ pub fn store_under(table: &mut [u8; PLACES], n: u8, value: u8)
     }
 }
 
-// a register's value
+// a register's value. Inner: the calls and replay's loop use it.
 pub fn value(values: &[u32; PLACES], register: u8) -> u32
     requires { ⌜ length (now values) ≡ places ⌝ }
     ensures { λ r. ⌜ r ≡ lookUp (now (values .entry)) register ⌝ }
@@ -41,6 +42,7 @@ pub fn value(values: &[u32; PLACES], register: u8) -> u32
     if at < PLACES { values[at] } else { 0 }
 }
 
+// Inner: the calls and replay's loop use it.
 pub fn store_value(values: &mut [u32; PLACES], register: u8, value: u32)
     requires { ⌜ length (now values) ≡ places ⌝ }
     ensures { λ r. ⌜ now (values .exit) ≡ storeUnder (now (values .entry)) register value ⌝ }
@@ -53,7 +55,7 @@ pub fn store_value(values: &mut [u32; PLACES], register: u8, value: u32)
     }
 }
 
-// a logical register's name or register in the general map
+// a logical register's name or register in the general map. Inner: the calls and replay's loop use it.
 pub fn mapped(map: &[u8; 32], logical: u8) -> u8
     requires { ⌜ length (now map) ≡ 32 ⌝ }
     ensures { λ r. ⌜ r ≡ lookUp (now (map .entry)) logical ⌝ }
@@ -65,6 +67,7 @@ pub fn mapped(map: &[u8; 32], logical: u8) -> u8
     if at < 32 { map[at] } else { 0 }
 }
 
+// Inner: the calls and replay's loop use it.
 pub fn map_to(map: &mut [u8; 32], logical: u8, value: u8)
     requires { ⌜ length (now map) ≡ 32 ⌝ }
     ensures { λ r. ⌜ now (map .exit) ≡ storeUnder (now (map .entry)) logical value ⌝ }
@@ -77,6 +80,7 @@ pub fn map_to(map: &mut [u8; 32], logical: u8, value: u8)
     }
 }
 
+// Inner: the calls and replay's loop use it.
 pub fn is_valid(valid: &[bool; 32], logical: u8) -> bool
     requires { ⌜ length (now valid) ≡ 32 ⌝ }
     ensures { λ r. ⌜ r ≡ lookValid (now (valid .entry)) logical ⌝ }
@@ -88,6 +92,7 @@ pub fn is_valid(valid: &[bool; 32], logical: u8) -> bool
     if at < 32 { valid[at] } else { false }
 }
 
+// Inner: the calls and replay's loop use it.
 pub fn set_valid(valid: &mut [bool; 32], logical: u8, value: bool)
     requires { ⌜ length (now valid) ≡ 32 ⌝ }
     ensures { λ r. ⌜ now (valid .exit) ≡ storeUnder (now (valid .entry)) logical value ⌝ }
@@ -100,7 +105,7 @@ pub fn set_valid(valid: &mut [bool; 32], logical: u8, value: bool)
     }
 }
 
-// a logical register's register and valid bit change where a test holds
+// a logical register's register and valid bit change where a test holds. Inner: the calls and replay's loop use it.
 pub fn map_where(map: &mut [u8; 32], holds: bool, logical: u8, value: u8)
     requires { ⌜ length (now map) ≡ 32 ⌝ }
     ensures { λ r. ⌜ now (map .exit) ≡ choose holds (storeUnder (now (map .entry)) logical value) (now (map .entry)) ⌝ }
@@ -110,6 +115,7 @@ pub fn map_where(map: &mut [u8; 32], holds: bool, logical: u8, value: u8)
     }
 }
 
+// Inner: the calls and replay's loop use it.
 pub fn valid_where(valid: &mut [bool; 32], holds: bool, logical: u8, value: bool)
     requires { ⌜ length (now valid) ≡ 32 ⌝ }
     ensures { λ r. ⌜ now (valid .exit) ≡ choose holds (storeUnder (now (valid .entry)) logical value) (now (valid .entry)) ⌝ }

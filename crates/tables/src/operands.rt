@@ -6,7 +6,7 @@ use crate::Operand;
 use crate::PLACES;
 use crate::maps;
 
-// ready with this register where it is on this name
+// ready with this register where it is on this name. Inner: the calls and replay's loop use it.
 pub fn wake(operand: Operand, name: u8, register: u8) -> Operand
     ensures { λ r. ⌜ r ≡ Operands.wake name register operand ⌝ }
 {
@@ -25,7 +25,7 @@ pub fn wake(operand: Operand, name: u8, register: u8) -> Operand
     }
 }
 
-// waiting again where it is on this name
+// waiting again where it is on this name. Inner: the calls and replay's loop use it.
 pub fn sleep(operand: Operand, name: u8) -> Operand
     ensures { λ r. ⌜ r ≡ Operands.sleep name operand ⌝ }
 {
@@ -40,6 +40,7 @@ pub fn sleep(operand: Operand, name: u8) -> Operand
     }
 }
 
+// Inner: the calls and replay's loop use it.
 pub fn is_ready(operand: Operand) -> bool
     ensures { λ r. ⌜ r ≡ Operands.isReady operand ⌝ }
 {
@@ -50,7 +51,7 @@ pub fn is_ready(operand: Operand) -> bool
     }
 }
 
-// the value that an operand reads
+// the value that an operand reads. Inner: the calls and replay's loop use it.
 pub fn value_of(values: &[u32; PLACES], operand: Operand) -> u32
     requires { ⌜ length (now values) ≡ places ⌝ }
     ensures { λ r. ⌜ r ≡ Operands.valueOf (now (values .entry)) operand ⌝ }
@@ -62,7 +63,7 @@ pub fn value_of(values: &[u32; PLACES], operand: Operand) -> u32
     }
 }
 
-// what the general map shows of a logical register: zero for x0, ready if valid
+// what the general map shows of a logical register: zero for x0, ready if valid. Inner: the calls and replay's loop use it.
 pub fn shown(logical: u8, name: u8, register: u8, valid: bool) -> Operand
     ensures { λ r. ⌜ r ≡ Operands.shownOperand logical name register valid ⌝ }
 {

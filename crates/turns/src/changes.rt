@@ -19,7 +19,7 @@ pub struct Heads {
     pub name: u8,
 }
 
-// the destination shows the new name, not valid; the name leaves its pool
+// the destination shows the new name, not valid; the name leaves its pool. Inner: replay's loop uses it.
 pub fn rename(
     mapname: &mut [u8; 32],
     mapregister: &mut [u8; 32],
@@ -39,7 +39,8 @@ pub fn rename(
     decoding::head_after(e.destination, head, following)
 }
 
-// both maps learn the name's register, or 0 where it loses it: the general map only if it still shows the name
+// both maps learn the name's register, or 0 where it loses it: the general map only if it still shows the name.
+// Inner: replay's loop uses it.
 pub fn learn(
     mapname: &[u8; 32],
     mapregister: &mut [u8; 32],
@@ -58,7 +59,7 @@ pub fn learn(
     maps::store_under(physical, e.name, register);
 }
 
-// a dropped entry's register and name are free, and the previous name returns
+// a dropped entry's register and name are free, and the previous name returns. Inner: replay's loop uses it.
 pub fn restore(
     mapname: &mut [u8; 32],
     mapregister: &mut [u8; 32],
@@ -86,7 +87,7 @@ pub fn restore(
     }
 }
 
-// the previous name and its register are free
+// the previous name and its register are free. Inner: replay's loop uses it.
 pub fn retire(
     physical: &mut [u8; PLACES],
     registerlink: &mut [u8; PLACES],
@@ -107,7 +108,7 @@ pub fn retire(
     }
 }
 
-// completed, with the actual next address as the predicted one
+// completed, with the actual next address as the predicted one. Inner: replay's loop uses it.
 pub fn finished(e: Entry, result: u32, next: u32) -> Entry
     ensures { λ r. ⌜ r ≡ predictedEntry next (completedEntry result e) ⌝ }
 {
@@ -115,7 +116,7 @@ pub fn finished(e: Entry, result: u32, next: u32) -> Entry
     entries::predicted(done, next)
 }
 
-// operands on the victim's name wait again, then those on the thief's are ready
+// operands on the victim's name wait again, then those on the thief's are ready. Inner: replay's loop uses it.
 pub fn passed_on(x: Entry, victim: u8, name: u8, register: u8) -> Entry
     ensures { λ r. ⌜ r ≡ wakeEntry name register (sleepEntry victim x) ⌝ }
 {

@@ -30,7 +30,8 @@ fn entry_place(position: usize) -> usize
     position
 }
 
-// the place that an event looks at: the position of an issue or a complete, else that of the oldest entry
+// the place that an event looks at: the position of an issue or a complete, else that of the oldest entry.
+// Inner: replay's loop uses it.
 pub fn place(r: Record) -> usize
     ensures { λ n. ⌜ (n ≡ Ways.placeOf (callBy r)) × (n < mostEntries) ⌝ }
 {
@@ -91,7 +92,7 @@ fn complete_way(e: Entry) -> Way
     Way::Refused
 }
 
-// the way of an event; 15 and 16 are found on the way
+// the way of an event; 15 and 16 are found on the way. Inner: replay's loop uses it.
 pub fn way_of(r: Record, halt: Stop, s: Setup, count: usize, e: Entry) -> Way
     requires { ⌜ (Ways.placeOf (callBy r) < count → e .instruction .operation ≤ last) ⌝ }
     ensures { λ w. ⌜ w ≡ Ways.wayOf (callBy r) halt s count e ⌝ }
@@ -123,6 +124,7 @@ pub fn way_of(r: Record, halt: Stop, s: Setup, count: usize, e: Entry) -> Way
     }
 }
 
+// Inner: replay's loop uses it.
 pub fn ending_of(e: Entry, o: Outcome, head: u8) -> Ending
     ensures { λ w. ⌜ w ≡ Ways.endingOf e o head ⌝ }
 {
@@ -139,14 +141,15 @@ pub fn ending_of(e: Entry, o: Outcome, head: u8) -> Ending
     Ending::Supplied
 }
 
-// where fetch goes after a completion: to the actual next address where it was not predicted
+// where fetch goes after a completion: to the actual next address where it was not predicted. Inner: replay's loop uses it.
 pub fn fetch_after(next: u32, predicted: u32, fetch: u32) -> u32
     ensures { λ r. ⌜ r ≡ Ways.fetchAfter next predicted fetch ⌝ }
 {
     if next == predicted { fetch } else { next }
 }
 
-// how many entries stay after a completion: the younger ones go where the next address was not predicted
+// how many entries stay after a completion: the younger ones go where the next address was not predicted.
+// Inner: replay's loop uses it.
 pub fn kept_after(next: u32, predicted: u32, at: usize, count: usize) -> usize
     requires { ⌜ (at < count) × (count ≤ mostEntries) ⌝ }
     ensures { λ k. ⌜ (k ≡ Ways.keptAfter next predicted at count) × (k ≤ count) ⌝ }
@@ -165,7 +168,8 @@ fn name_of(operand: Operand) -> u8
     }
 }
 
-// whether an operand of the entry is on the name: no other entry changes where the name's operands become ready
+// whether an operand of the entry is on the name: no other entry changes where the name's operands become ready.
+// Inner: replay's loop uses it.
 pub fn is_on(e: Entry, name: u8) -> bool
     ensures { λ b. ⌜ b ≡ (eqb (Ways.nameOf (e .left)) name || eqb (Ways.nameOf (e .right)) name) ⌝ }
 {

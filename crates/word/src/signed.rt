@@ -2,7 +2,7 @@ ghost use mathlib.Core.Path.{_≡_};
 ghost use Prim.Native.Nat.{_+_, _^_, _≤_, _<_};
 ghost use Rattle.word.specs.Signed as Signed;
 
-// A cast must fit: ones' complement turns the upper half of the words into numbers that do.
+// A cast must fit: ones' complement turns the upper half of the words into numbers that do. Inner: the crates above use it.
 pub fn to_signed(word: u32) -> i32
     ensures { λ r. ⌜ r ≡ Signed.signed word ⌝ }
 {
@@ -13,6 +13,7 @@ pub fn to_signed(word: u32) -> i32
     }
 }
 
+// Inner: the crates above use it.
 pub fn to_word(number: i32) -> u32
     ensures { λ r. ⌜ r ≡ Signed.wordOf number ⌝ }
 {
@@ -23,7 +24,7 @@ pub fn to_word(number: i32) -> u32
     }
 }
 
-// n below 2 * half, read as signed
+// n below 2 * half, read as signed. Inner: the crates above use it.
 pub fn extend(half: u32, n: u32) -> i32
     requires { ⌜ (n < half + half) × (half ≤ 2 ^ 30) ⌝ }
     ensures { λ r. ⌜ r ≡ Signed.extend half n ⌝ }
