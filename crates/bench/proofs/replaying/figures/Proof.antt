@@ -39,8 +39,8 @@ rate-requires c κs =
     let a = c .before .before .before .before .before .before .before .before .before .before .before .before .before .before .before .before .args in
     counts-few (now (a .program)) (now (a .«data»)) (now (a .schedule)) (c .before .before .before .before .before .before .before .before .before .before .before .before .before .before .before .before .pre) (c .before .before .before .before .before .before .before .play .result) _ (c .before .before .before .before .before .before .before .play .ensures)
 
-cast-t20 : tie.Need-cast-t20
-cast-t20 c = search needs
+cast-t21 : tie.Need-cast-t21
+cast-t21 c = search needs
 
 same-length : tie.Need-same-length
 same-length c = search needs
@@ -62,6 +62,6 @@ figures-spec =
     play-requires
     report-requires
     rate-requires
-    cast-t20
+    cast-t21
     same-length
     returns)
