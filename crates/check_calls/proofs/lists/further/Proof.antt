@@ -22,6 +22,9 @@ loop-holds c = search needs
 further-requires : tie.Need-further-requires Inv-loop μ-loop
 further-requires c κs = search needs
 
+is-commit-requires : tie.Need-is-commit-requires Inv-loop μ-loop
+is-commit-requires c κs = search needs
+
 called-requires : tie.Need-called-requires Inv-loop μ-loop
 called-requires c κs = search needs
 
@@ -67,6 +70,7 @@ further-spec =
     at-requires
     loop-holds
     further-requires
+    is-commit-requires
     called-requires
     add-k
     loop-less
