@@ -1,6 +1,6 @@
 -- One event, put together from its call and what it counts.
 use Prim.Native.Nat.{ℕ}
-use mathlib.Core.Path.{_≡_, sym, ap, _∙_}
+use mathlib.Core.Path.{_≡_, _∙_}
 use mathlib.Core.List.{List}
 use borrow.Author.Tests.{eq-eqb, ne-eqb}
 use Rattle.formats.specs.Chain.{decodeKind, issueKind, completeKind}
@@ -14,8 +14,9 @@ use Rattle.issuing.specs.Issue.{issueWithin}
 use Rattle.issuing.proofs.IssueLaws.{issue-lent}
 use Rattle.completing.specs.Complete.{completeWithin}
 use Rattle.completing.proofs.CompleteLaws.{complete-lent}
-use Rattle.committing.specs.Commit.{Commit, commitWithin}
+use Rattle.committing.specs.Commit.{commitWithin}
 use Rattle.committing.proofs.CommitLaws.{commit-lent}
+use Rattle.window.proofs.MakeLaws as Make
 use Rattle.window.specs.Calls.{World, madeBy, make, stolen, dropped}
 use Rattle.window.specs.declared.Call.{Call}
 use Rattle.window.specs.declared.Call.the-variants.{Decode as decode, Issue as issue, Complete as complete, Commit as commit}
@@ -45,24 +46,16 @@ module _ (program memory : List ℕ) (m : Core) (lent : lentRefusal m program me
   w = record { core = m; memory = memory }
 
   pub decode-made : (call : Call) (guess : ℕ) (a : Answer) → call ≡ decode guess → a ≡ decodeWithin program guess m → make program call w ≡ madeBy (a .core) memory (a .number)
-  unfolding make
-  decode-made call guess a q e =
-      ap (λ (x : Call). make program x w) q ∙ ap (λ (x : Answer). madeBy (x .core) memory (x .number)) (sym (e ∙ decode-lent program memory guess m lent))
+  decode-made call guess a q e = Make.decode-made program call w a guess q (e ∙ decode-lent program memory guess m lent)
 
   pub issue-made : (call : Call) (position : ℕ) (a : Answer) → call ≡ issue position → a ≡ issueWithin memory position m → make program call w ≡ madeBy (a .core) memory (a .number)
-  unfolding make
-  issue-made call position a q e =
-      ap (λ (x : Call). make program x w) q ∙ ap (λ (x : Answer). madeBy (x .core) memory (x .number)) (sym (e ∙ issue-lent program memory position m lent))
+  issue-made call position a q e = Make.issue-made program call w a position q (e ∙ issue-lent program memory position m lent)
 
   pub complete-made : (call : Call) (position : ℕ) (a : Answer) → call ≡ complete position → a ≡ completeWithin position m → make program call w ≡ madeBy (a .core) memory (a .number)
-  unfolding make
-  complete-made call position a q e =
-      ap (λ (x : Call). make program x w) q ∙ ap (λ (x : Answer). madeBy (x .core) memory (x .number)) (sym (e ∙ complete-lent program memory position m lent))
+  complete-made call position a q e = Make.complete-made program call w a position q (e ∙ complete-lent program memory position m lent)
 
   pub commit-made : (call : Call) (a : Answer) (written : List ℕ) → call ≡ commit → commitWithin memory m ≡ record { answer = a; memory = written } → make program call w ≡ madeBy (a .core) written (a .number)
-  unfolding make
-  commit-made call a written q e =
-      ap (λ (x : Call). make program x w) q ∙ ap (λ (x : Commit). madeBy (x .answer .core) (x .memory) (x .answer .number)) (commit-lent program memory m lent ∙ e)
+  commit-made call a written q e = Make.commit-made program call w a written q (commit-lent program memory m lent ∙ e)
 
 adding-is : (call : Call) (before after : Core) (c : Counts) (a b d : ℕ) → a ≡ commits call after → b ≡ stolen call before → d ≡ dropped call before after → adding a b d c ≡ accepting call before after c
 adding-is call before after c a b d p q r = rw (p, q, r)
