@@ -1,4 +1,4 @@
--- The machine.
+-- The core: all that document 01's machine holds. Definitions speak of it; a buyer holds it as `window::Machine`.
 use Prim.Native.Nat.{ℕ, zero, suc}
 use mathlib.Core.Bool.{false}
 use mathlib.Core.List.{List, [], _∷_}

@@ -82,11 +82,17 @@ first [] = 0
 first (number ∷ numbers) = choose (eqb number 0) (first numbers) number
 
 -- "Program: 4 to 16,384 bytes, a multiple of 4. Data: 0 to 16,384 bytes."
+abbrev pub longestProgram : ℕ
+longestProgram = 16_384
+
+abbrev pub longestData : ℕ
+longestData = 16_384
+
 abbrev pub programFits : ℕ → Bool
-programFits bytes = leb 4 bytes && leb bytes 16_384 && eqb (bytes % 4) 0
+programFits bytes = leb 4 bytes && leb bytes longestProgram && eqb (bytes % 4) 0
 
 abbrev pub dataFits : ℕ → Bool
-dataFits bytes = leb bytes 16_384
+dataFits bytes = leb bytes longestData
 
 unfoldable pub lengthsRefusal : ℕ → ℕ → ℕ
 lengthsRefusal program bytes = first (when (not (programFits program)) 3 ∷ when (not (dataFits bytes)) 4 ∷ [])

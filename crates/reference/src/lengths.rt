@@ -1,18 +1,22 @@
 ghost use mathlib.Core.Path.{_≡_};
 ghost use Rattle.reference.specs.Step.{programFits, dataFits, lengthsRefusal, lengthRefusal};
 
-// Inner: step, run, set-up and replay use it.
+pub const LONGEST_PROGRAM: usize = 16_384;
+
+pub const LONGEST_DATA: usize = 16_384;
+
+// whether a program may have so many bytes. Inner: step, run, set-up and replay use it.
 pub fn program_fits(bytes: usize) -> bool
     ensures { λ r. ⌜ r ≡ programFits bytes ⌝ }
 {
-    (4 <= bytes) & (bytes <= 16_384) & (bytes % 4 == 0)
+    (4 <= bytes) & (bytes <= LONGEST_PROGRAM) & (bytes % 4 == 0)
 }
 
-// Inner: step, run, set-up and replay use it.
+// whether data may have so many bytes. Inner: step, run, set-up and replay use it.
 pub fn data_fits(bytes: usize) -> bool
     ensures { λ r. ⌜ r ≡ dataFits bytes ⌝ }
 {
-    bytes <= 16_384
+    bytes <= LONGEST_DATA
 }
 
 // refusal 3 for a program's length, 4 for the data's, 0 for none. Inner: step, run, set-up and replay use it.

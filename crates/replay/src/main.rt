@@ -4,6 +4,8 @@ mod files;
 mod lines;
 
 use bench::Replayed;
+use formats::schedule;
+use reference::lengths;
 
 fn print(found: Replayed) {
     let counts = found.counts;
@@ -30,10 +32,16 @@ fn replay(program: &[u8], data: &mut [u8], schedule: &[u8]) {
 }
 
 // A buffer has one byte more than replay accepts, so that a longer file is refused by its length and not cut to fit.
+const PROGRAM: usize = lengths::LONGEST_PROGRAM + 1;
+
+const DATA: usize = lengths::LONGEST_DATA + 1;
+
+const SCHEDULE: usize = schedule::LONGEST + 1;
+
 fn read_and_replay(code: i32, memory: i32, chain: i32) {
-    let mut program = [0u8; 16_385];
-    let mut data = [0u8; 16_385];
-    let mut schedule = [0u8; 65_537];
+    let mut program = [0u8; PROGRAM];
+    let mut data = [0u8; DATA];
+    let mut schedule = [0u8; SCHEDULE];
     let p = files::read(code, &mut program);
     let d = files::read(memory, &mut data);
     let s = files::read(chain, &mut schedule);
