@@ -27,17 +27,21 @@ use Rattle.events.specs.Numbers.{adding}
 -- the call of a record, by its kind
 module _ (r : Record) where
   pub by-decode : r .kind ≡ decodeKind → callBy r ≡ decode (r .guess)
+  unfolding callBy
   by-decode e = rw (eq-eqb (r .kind) decodeKind e)
 
   module _ (not1 : r .kind ≡ decodeKind → ⊥) where
     pub by-issue : r .kind ≡ issueKind → callBy r ≡ issue (r .position)
+    unfolding callBy
     by-issue e = rw (ne-eqb (r .kind) decodeKind not1, eq-eqb (r .kind) issueKind e)
 
     module _ (not2 : r .kind ≡ issueKind → ⊥) where
       pub by-complete : r .kind ≡ completeKind → callBy r ≡ complete (r .position)
+      unfolding callBy
       by-complete e = rw (ne-eqb (r .kind) decodeKind not1, ne-eqb (r .kind) issueKind not2, eq-eqb (r .kind) completeKind e)
 
       pub by-commit : (r .kind ≡ completeKind → ⊥) → callBy r ≡ commit
+      unfolding callBy
       by-commit not3 = rw (ne-eqb (r .kind) decodeKind not1, ne-eqb (r .kind) issueKind not2, ne-eqb (r .kind) completeKind not3)
 
 -- the calls, where 5 and 6 do not apply

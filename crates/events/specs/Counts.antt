@@ -13,7 +13,7 @@ use Rattle.window.specs.declared.Call.the-variants.{Decode as decode, Issue as 
 use Rattle.events.specs.declared.Counts.{Counts}
 
 -- "Kinds: 1 decode, 2 issue, 3 complete, 4 commit."
-abbrev pub callBy : Record → Call
+unfoldable pub callBy : Record → Call
 callBy r = choose (eqb (r .kind) decodeKind) (decode (r .guess)) (choose (eqb (r .kind) issueKind) (issue (r .position)) (choose (eqb (r .kind) completeKind) (complete (r .position)) commit))
 
 -- "Committed counts commits without a halt"

@@ -58,6 +58,7 @@ isDecode (complete position) = false
 isDecode commit = false
 
 own-guess : (r : Record) (guess : ℕ) → callBy r ≡ decode guess → callBy r ≡ decode (r .guess)
+unfolding callBy
 own-guess r guess q = at (eqb (r .kind) decodeKind) (eqb (r .kind) issueKind) (eqb (r .kind) completeKind) q
   where
     at : (a b c : Bool) → choose a (decode (r .guess)) (choose b (issue (r .position)) (choose c (complete (r .position)) commit)) ≡ decode guess
