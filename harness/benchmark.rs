@@ -12,6 +12,7 @@ use std::fs;
 use std::os::unix::fs::PermissionsExt;
 use std::path::{Path, PathBuf};
 use std::time::Duration;
+use timing::COPIES;
 
 /// Calls of the run, of 65,535 steps each: about two million steps in a sample, and enough for a whole loop.
 const SAMPLE: u32 = 31;
@@ -19,7 +20,7 @@ const WHOLE: u32 = 1_000;
 const DATA: usize = 16_384;
 const WORDS: usize = 4_096;
 
-/// The plain interpreter over as many calls, in the form of `timing::run`.
+/// The plain interpreter over as many calls, in the form of a copy's `run`.
 fn plain_run(program: &[u8], data: &mut [u8], calls: u32) -> timing::Timed {
     let (mut registers, mut address) = ([0; 32], 0);
     let mut all = timing::Timed {
@@ -55,7 +56,7 @@ fn words_read(program: &[u8], data: &[u8]) -> Vec<u32> {
 /// The whole loop on both: its steps and the data that it leaves, on which they have to agree.
 fn compared(name: &str, program: &[u8], data: &[u8]) -> (u64, Vec<u8>) {
     let (mut left, mut plain_left) = (data.to_vec(), data.to_vec());
-    let r = timing::run(program, &mut left, WHOLE);
+    let r = COPIES[0].run(program, &mut left, WHOLE);
     let p = plain_run(program, &mut plain_left, WHOLE);
     assert_eq!(
         (r.steps, r.cause, r.refusal),
@@ -79,10 +80,11 @@ fn times(program: &[u8], data: &[u8]) -> Times {
     let (mut reference, mut find, mut plain) = (Best::new(), Best::new(), Best::new());
     at_four_places(&mut || {
         let mut d = data.to_vec();
-        reference.sample(|| timing::run(program, &mut d, SAMPLE).steps);
-        find.sample_parts(rounds as u64 * WORDS as u64, || {
-            timing::find(&words, rounds)
-        });
+        for code in COPIES {
+            d.copy_from_slice(data);
+            reference.sample(|| code.run(program, &mut d, SAMPLE).steps);
+            find.sample_parts(rounds as u64 * WORDS as u64, || code.find(&words, rounds));
+        }
         d.copy_from_slice(data);
         plain.sample(|| plain_run(program, &mut d, SAMPLE).steps);
     });
