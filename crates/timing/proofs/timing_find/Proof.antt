@@ -1,24 +1,28 @@
--- 159,744 is 39 for each of 4,096 words: the most that a round adds.
 use Prim.Native.Nat.{ℕ, _+_, _*_, _-_, _≤_}
 use mathlib.Core.Path.{_≡_, ap, _∙_}
 use native.Mathlib.Omega.{arith}
 use borrow.Author.Needs.{needs}
 use denote.Ref.{now}
 use lib.ListN.{length, drop}
+use Rattle.isa.specs.Listing.{last}
 use Rattle.timing.specs.Timing.{operations}
 use Rattle.timing.proofs.Sums.{next, round-over, found, too-many}
 use Rattle.timing.proofs.timing_find.Statement.{statement}
 use Rattle.timing.proofs.timing_find.Tie as tie
 
+-- the most that a round adds: the last operation for each of 4,096 words
+abbrev round-most : ℕ
+round-most = 4_096 * last
+
 abbrev Inv-loop2 : tie.InvT-loop2
 Inv-loop2 words rounds sum₀ round k₀ sum k =
-    (k ≤ length words) × (sum ≤ round * 159_744 + 39 * k) × (sum + operations (drop k words) ≡ sum₀ + operations words)
+    (k ≤ length words) × (sum ≤ round * round-most + last * k) × (sum + operations (drop k words) ≡ sum₀ + operations words)
 
 abbrev μ-loop2 : tie.MeasureT-loop2
 μ-loop2 words rounds sum₀ round k₀ sum k = length words - k
 
 abbrev Inv-loop : tie.InvT-loop
-Inv-loop words rounds sum₀ round₀ sum round = (round ≤ rounds) × (sum ≤ round * 159_744) × (sum ≡ round * operations words)
+Inv-loop words rounds sum₀ round₀ sum round = (round ≤ rounds) × (sum ≤ round * round-most) × (sum ≡ round * operations words)
 
 abbrev μ-loop : tie.MeasureT-loop
 μ-loop words rounds sum₀ round₀ sum round = rounds - round
