@@ -4,7 +4,7 @@ use renaming::Core;
 use tables::{Entry, Operand};
 
 // the in-order run: registers, next address, and cause once it stopped
-#[derive(Drop)]
+#[derive(Clone, Copy)]
 pub struct Ordered {
     pub registers: [u32; 32],
     pub address: u32,

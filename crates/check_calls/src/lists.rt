@@ -5,7 +5,7 @@ use crate::{accounting, calls, chance, comparing, counting, damage, programs, re
 use renaming::Core;
 use window::{Call, Machine};
 
-#[derive(Drop)]
+#[derive(Clone, Copy)]
 struct Run {
     core: Core,
     ordered: Ordered,

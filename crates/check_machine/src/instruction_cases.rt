@@ -6,7 +6,7 @@ use isa::Instruction;
 
 // under and over: the nearest constants out of range; odd: where constants must be even an odd one between the limits,
 // otherwise a further one out of range
-#[derive(Drop)]
+#[derive(Clone, Copy)]
 struct Limits {
     rd: u8,
     rs1: u8,

@@ -4,7 +4,7 @@ use window::Machine;
 
 // How many machines with a damaged number were to be refused by 5, how many with a number at its limit were to pass, how
 // many with a number that 5 does not look at were to pass, and how many did otherwise.
-#[derive(Drop)]
+#[derive(Clone, Copy)]
 pub struct Tally {
     pub refused: u64,
     pub in_range: u64,

@@ -5,7 +5,7 @@ use renaming::Core;
 use tables::{Entry, Operand, State};
 
 // an entry, and whether 5 is to refuse a machine that holds it
-#[derive(Drop)]
+#[derive(Clone, Copy)]
 pub struct Case {
     pub entry: Entry,
     pub refused: bool,

@@ -5,7 +5,7 @@ use tables::{Entry, Operand, State};
 use window::Machine;
 
 // by: how many should be refused by 1 to 4, and at 0 how many should be accepted
-#[derive(Drop)]
+#[derive(Clone, Copy)]
 struct Setups {
     by: [u64; 5],
     differ: u64,

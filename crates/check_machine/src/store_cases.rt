@@ -5,7 +5,7 @@ use isa::Instruction;
 use tables::Entry;
 
 // address: where the store goes, first + constant wrapping at 2^32
-#[derive(Drop)]
+#[derive(Clone, Copy)]
 struct Where {
     first: u32,
     constant: i32,

@@ -6,7 +6,7 @@ use crate::tally;
 use crate::tally::{Tally, Verdict};
 
 // where the run is; it is made in pieces, to see that each goes on where the one before ended
-#[derive(Drop)]
+#[derive(Clone, Copy)]
 struct Progress {
     registers: [u32; 32],
     address: u32,

@@ -1,5 +1,5 @@
 // What was counted; `more`: the file may hold a further record.
-#[derive(Drop)]
+#[derive(Clone, Copy)]
 pub struct Tally {
     pub tested: u64,
     pub differ: u64,
@@ -8,7 +8,7 @@ pub struct Tally {
 }
 
 // How a program came out: whether as the record says, and in how many steps.
-#[derive(Drop)]
+#[derive(Clone, Copy)]
 pub struct Verdict {
     pub right: bool,
     pub steps: u64,

@@ -7,7 +7,7 @@ use bench::Replayed;
 const PATTERN: u8 = 0xa5;
 
 // the lengths lent, and the number that replay must answer
-#[derive(Drop)]
+#[derive(Clone, Copy)]
 struct Case {
     program: u32,
     data: u32,

@@ -3,7 +3,7 @@ use bench::Replayed;
 
 // `numbers` counts the cases by their number, and the sums are over those with number 0; `more`: the file may hold a further
 // case; `whole`: no case breaks off.
-#[derive(Drop)]
+#[derive(Clone, Copy)]
 pub struct Tally {
     pub cases: u64,
     pub differ: u64,

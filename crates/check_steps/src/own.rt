@@ -4,7 +4,7 @@
 ghost use Rattle.std.specs.Prelude.{◌≤◌, length};
 
 // `more`: the file may hold a further record
-#[derive(Drop)]
+#[derive(Clone, Copy)]
 pub struct Tally {
     pub tested: u64,
     pub differ: u64,
@@ -12,7 +12,7 @@ pub struct Tally {
 }
 
 // what a step or a run hands back; a step tells no number of steps
-#[derive(Drop)]
+#[derive(Clone, Copy)]
 struct Answer {
     registers: [u32; 32],
     address: u32,

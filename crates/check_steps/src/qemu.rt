@@ -1,7 +1,7 @@
 // Single steps as QEMU makes them. A record has eight words: word, address, a, b, next, what, where, value.
 
 // `stops` counts the steps that stop, by cause; `more`: the file may hold a further record
-#[derive(Drop)]
+#[derive(Clone, Copy)]
 pub struct Tally {
     pub tested: u64,
     pub differ: u64,
@@ -10,7 +10,7 @@ pub struct Tally {
 }
 
 // what the record says of the step, and the state before it
-#[derive(Drop)]
+#[derive(Clone, Copy)]
 struct Question {
     word: u32,
     address: u32,

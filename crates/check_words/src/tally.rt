@@ -2,7 +2,7 @@
 use libc::STDOUT_FILENO;
 
 // first: the number of the first record that differs, counted from 0; more: the file may hold a further record
-#[derive(Drop)]
+#[derive(Clone, Copy)]
 pub struct Tally {
     pub tested: u32,
     pub differ: u32,

@@ -5,7 +5,7 @@ use crate::{LAST_OPERATION, counts};
 use isa::{Instruction, Reading};
 
 // counts: how many words of each operation were tested, illegal ones at 0
-#[derive(Drop)]
+#[derive(Clone, Copy)]
 struct Words {
     tally: Tally,
     counts: [u32; 49],

@@ -7,7 +7,7 @@ use renaming::Core;
 
 // How many calls were accepted and refused, how many commits were made without a halt, how many registers were stolen and
 // how many entries dropped.
-#[derive(Drop)]
+#[derive(Clone, Copy)]
 pub struct Counts {
     pub accepted: u32,
     pub refused: u32,
@@ -16,7 +16,7 @@ pub struct Counts {
     pub dropped: u32,
 }
 
-#[derive(Drop)]
+#[derive(Clone, Copy)]
 pub struct Played {
     pub core: Core,
     pub counts: Counts,

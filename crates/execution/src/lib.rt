@@ -9,13 +9,13 @@ pub use executing::execute;
 pub use memory::{second_value, store};
 
 // Why an instruction is not made: document 01's cause, 0 for none.
-#[derive(Drop)]
+#[derive(Clone, Copy)]
 pub struct Stop {
     pub cause: u8,
 }
 
 // What an instruction comes to; with a stop the result is 0 and the next address its own.
-#[derive(Drop)]
+#[derive(Clone, Copy)]
 pub struct Outcome {
     pub result: u32,
     pub next: u32,

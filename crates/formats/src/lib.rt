@@ -8,7 +8,7 @@ pub use result::{RESULT_LENGTH, RESULT_WORDS, lay, rate};
 pub use schedule::{RECORD_LENGTH, first_index, head_refusal, record_at, registers_in, window_in};
 
 // One event of a schedule, and the index of the record after it.
-#[derive(Drop)]
+#[derive(Clone, Copy)]
 pub struct Record {
     pub kind: u8,
     pub position: u8,

@@ -12,7 +12,7 @@ pub use listing::LAST;
 pub use reader::read;
 
 // Operation numbers are 1 to 39 in the order of the manual's listing; a field that the operation lacks is 0.
-#[derive(Drop)]
+#[derive(Clone, Copy)]
 pub struct Instruction {
     pub operation: u8,
     pub rd: u8,
@@ -22,7 +22,7 @@ pub struct Instruction {
 }
 
 // What a word reads as.
-#[derive(Drop)]
+#[derive(Clone, Copy)]
 pub enum Reading {
     Legal(Instruction),
     Illegal,
@@ -30,7 +30,7 @@ pub enum Reading {
 
 // A word and refusal 0, or word 0 and refusal 30.
 #[repr(C)]
-#[derive(Drop)]
+#[derive(Clone, Copy)]
 pub struct Encoded {
     pub word: u32,
     pub refusal: u32,

@@ -4,7 +4,7 @@ pub mod sizes;
 pub mod table;
 
 // Window W, registers N, and the lengths of program and data.
-#[derive(Drop)]
+#[derive(Clone, Copy)]
 pub struct Setup {
     pub window: u8,
     pub registers: u8,

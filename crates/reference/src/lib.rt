@@ -14,21 +14,21 @@ pub use running::run;
 pub use stepping::step;
 
 // What the program has at an address.
-#[derive(Drop)]
+#[derive(Clone, Copy)]
 pub enum Fetching {
     Found(Instruction),
     Stopped(Stop),
 }
 
 // Where a step on lent registers and data leads, or why it is not made.
-#[derive(Drop)]
+#[derive(Clone, Copy)]
 pub struct Advance {
     pub address: u32,
     pub stop: Stop,
 }
 
 // The state after one step; at a stop or a refusal it is as given.
-#[derive(Drop)]
+#[derive(Clone, Copy)]
 pub struct Stepped {
     pub registers: [u32; 32],
     pub address: u32,
@@ -37,7 +37,7 @@ pub struct Stepped {
 }
 
 // The state after a run, and how many steps were made.
-#[derive(Drop)]
+#[derive(Clone, Copy)]
 pub struct Ran {
     pub registers: [u32; 32],
     pub address: u32,

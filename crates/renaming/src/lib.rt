@@ -12,7 +12,7 @@ use ranges::sizes::MOST_ENTRIES;
 use tables::{Entry, PLACES};
 
 // The core: all that document 01's machine holds, under 4 KB, by value. Every table is a field of its own; index 0 of a table is nobody's.
-#[derive(Drop)]
+#[derive(Clone, Copy)]
 pub struct Core {
     pub setup: Setup,
     pub count: u8,
@@ -32,7 +32,7 @@ pub struct Core {
 }
 
 // The core after a call, with 0 or a refusal. Inner: a buyer gets `window::Answer`.
-#[derive(Drop)]
+#[derive(Clone, Copy)]
 pub struct Answer {
     pub core: Core,
     pub number: u8,

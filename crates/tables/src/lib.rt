@@ -11,7 +11,7 @@ use isa::Instruction;
 pub const PLACES: usize = 96;
 
 // An operand is zero, waiting on a name, or ready with a name and a register.
-#[derive(Drop)]
+#[derive(Clone, Copy)]
 pub enum Operand {
     Zero,
     Waiting(u8),
@@ -19,7 +19,7 @@ pub enum Operand {
 }
 
 // Waiting, issued or completed.
-#[derive(Drop)]
+#[derive(Clone, Copy)]
 pub enum State {
     Waits,
     Issued,
@@ -27,7 +27,7 @@ pub enum State {
 }
 
 // An instruction in the window; 40 bytes.
-#[derive(Drop)]
+#[derive(Clone, Copy)]
 pub struct Entry {
     pub instruction: Instruction,
     pub address: u32,

@@ -4,7 +4,7 @@ ghost use Rattle.timing.specs.Timing as Timing;
 
 // What many calls of the run come to: the steps of all of them, and document 01's cause and refusal.
 #[repr(C)]
-#[derive(Drop)]
+#[derive(Clone, Copy)]
 pub struct Timed {
     pub steps: u64,
     pub cause: u32,

@@ -8,7 +8,7 @@ ghost use Rattle.tables.specs.Entry.{completed_entry, predicted_entry, held, wak
 use tables::{Entry, PLACES, entries, free_list, maps};
 
 // the heads of the two pools
-#[derive(Drop)]
+#[derive(Clone, Copy)]
 pub struct Heads {
     pub register: u8,
     pub name: u8,

@@ -4,7 +4,7 @@ pub mod changes;
 pub mod ways;
 
 // Which way an event goes.
-#[derive(Drop)]
+#[derive(Clone, Copy)]
 pub enum Way {
     Refused,
     Decode,
@@ -18,7 +18,7 @@ pub enum Way {
 }
 
 // How an entry completes, which its outcome and the pool of registers decide.
-#[derive(Drop)]
+#[derive(Clone, Copy)]
 pub enum Ending {
     // with a cause
     Stops,

@@ -12,13 +12,13 @@ use renaming::Core;
 pub use tables::{Entry, Operand, State};
 
 // The machine, from set-up to report: its methods are all that a buyer calls of this level.
-#[derive(Drop)]
+#[derive(Clone, Copy)]
 pub struct Machine {
     pub core: Core,
 }
 
 // A call, by its guess or position.
-#[derive(Drop)]
+#[derive(Clone, Copy)]
 pub enum Call {
     Decode(u32),
     Issue(usize),
@@ -27,14 +27,14 @@ pub enum Call {
 }
 
 // The machine after a set-up or a call, with 0 or a refusal.
-#[derive(Drop)]
+#[derive(Clone, Copy)]
 pub struct Answer {
     pub machine: Machine,
     pub number: u8,
 }
 
 // The machine after a drain, how many calls were accepted, and 0 or the refusal that ended it.
-#[derive(Drop)]
+#[derive(Clone, Copy)]
 pub struct Drained {
     pub machine: Machine,
     pub calls: u8,
@@ -42,7 +42,7 @@ pub struct Drained {
 }
 
 // The committed registers, element 0 being 0, with 0 or refusal 5.
-#[derive(Drop)]
+#[derive(Clone, Copy)]
 pub struct Report {
     pub registers: [u32; 32],
     pub number: u8,
