@@ -1,4 +1,6 @@
 // The Bench level: schedules replayed, with counts.
+#![tactic(auto)]
+
 pub mod replaying;
 
 use events::Counts;

@@ -1,5 +1,7 @@
 // Set-up and refusal 5 from outside: machines over the corners of W, N and the lengths, and machines with one number
 // damaged. What is to be expected is written here from document 01, apart from the code under test.
+#![tactic(auto)]
+
 mod corners;
 mod damage;
 mod entry_damage;

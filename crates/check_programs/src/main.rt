@@ -1,5 +1,7 @@
 // Whole programs as QEMU runs them, random ones and compiled ones, compared with the in-order run.
 // The files and their layout: tools/programs.py and tools/compiled.py.
+#![tactic(auto)]
+
 mod compiled;
 mod random;
 mod tally;

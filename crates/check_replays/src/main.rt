@@ -1,6 +1,8 @@
 // Stored cases of replay: the number, every data byte and every byte of the result, also those that a refusal leaves alone.
 // `harness/stored_cases crates/check_replays/data` makes cases.bin, whose layout harness/stored_cases.rs describes, and
 // cases.txt, whose line k names case k and what it gives.
+#![tactic(auto)]
+
 mod cases;
 mod tally;
 

@@ -1,4 +1,6 @@
 // The functions that C harnesses call; harness/cirnhogul.h declares them.
+#![tactic(auto)]
+
 ghost use Rattle.std.specs.Prelude.{◌≡◌};
 ghost use Rattle.isa.specs.Encodes.{encoded_of};
 ghost use Rattle.isa.specs.Reads.{instruction};

@@ -1,4 +1,6 @@
 // Commit: the oldest entry leaves the window.
+#![tactic(auto)]
+
 ghost use Rattle.std.specs.Prelude.{◌≡◌, true, ◌≤◌, ◌<◌};
 ghost use Rattle.renaming.specs.Range.{machine_in_range};
 ghost use Rattle.renaming.specs.Setters.{with_entries};

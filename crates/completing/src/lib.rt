@@ -1,4 +1,6 @@
 // Complete: an entry gets its result and a register, free or stolen.
+#![tactic(auto)]
+
 ghost use Rattle.std.specs.Prelude.{◌≡◌, true, ◌≤◌, ◌<◌};
 ghost use Rattle.isa.specs.Listing.{last};
 ghost use Rattle.renaming.specs.Range.{machine_in_range};

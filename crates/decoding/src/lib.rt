@@ -1,4 +1,6 @@
 // Decode: an instruction enters the window.
+#![tactic(auto)]
+
 ghost use Rattle.std.specs.Prelude.{◌≡◌, [], ◌∷◌, not, ◌<◌, ◌≤◌, length, leb, eqb};
 ghost use Rattle.isa.specs.Listing.{last};
 ghost use Rattle.isa.specs.Reads.{choose, none};

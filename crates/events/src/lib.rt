@@ -1,4 +1,6 @@
 // The events of a schedule as calls, and what they count.
+#![tactic(auto)]
+
 pub mod calling;
 pub mod counting;
 

@@ -1,4 +1,6 @@
 // What an instruction does, by itself. The in-order step and the renaming core are made of these same pieces.
+#![tactic(auto)]
+
 pub mod actions;
 pub mod alu;
 pub mod executing;

@@ -1,4 +1,6 @@
 // A first program: one instruction goes through the window, call by call.
+#![tactic(auto)]
+
 use window::Machine;
 
 // ADDI x1, x0, 5

@@ -1,4 +1,6 @@
 // The formats that replay reads and writes: schedules, and the result.
+#![tactic(auto)]
+
 pub mod chain;
 pub mod result;
 pub mod schedule;

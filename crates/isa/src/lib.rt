@@ -1,4 +1,6 @@
 // RV32I without FENCE: instruction words read and written.
+#![tactic(auto)]
+
 pub mod encoder;
 pub mod fields;
 pub mod limits;

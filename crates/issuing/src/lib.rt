@@ -1,4 +1,6 @@
 // Issue: an entry reads its operands.
+#![tactic(auto)]
+
 ghost use Rattle.std.specs.Prelude.{◌≡◌, true, ◌≤◌, ◌<◌, length};
 ghost use Rattle.isa.specs.Listing.{last};
 ghost use Rattle.renaming.specs.Range.{machine_in_range};

@@ -1,4 +1,6 @@
 // All the events of a schedule.
+#![tactic(auto)]
+
 ghost use Rattle.std.specs.Prelude.{◌≡◌};
 ghost use Rattle.events.specs.Numbers as Numbers;
 ghost use Rattle.events.specs.Play as Play;

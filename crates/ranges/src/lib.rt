@@ -1,4 +1,6 @@
 // Numbers in range: what refusals 1 to 5 look at, apart from the machine that holds them.
+#![tactic(auto)]
+
 pub mod entries;
 pub mod sizes;
 pub mod table;

@@ -1,4 +1,6 @@
 // The Reference level: instructions executed one after the other.
+#![tactic(auto)]
+
 pub mod lengths;
 pub mod operands;
 pub mod program;

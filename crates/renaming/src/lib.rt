@@ -1,5 +1,7 @@
 // The machine at rest, as our crates hold it: its state, set-up, refusals 5 and 6, drops and the committed registers. A buyer
 // holds it as `window::Machine`; all that is public here is inner.
+#![tactic(auto)]
+
 pub mod dropping;
 pub mod lending;
 pub mod range;

@@ -1,5 +1,7 @@
 // Replays the schedule core.sched on the program core.code and the data core.data, files of the working folder, and prints
 // what it came to. A missing file is empty; one that cannot be read ends the program with a line on standard error.
+#![tactic(auto)]
+
 mod files;
 mod lines;
 

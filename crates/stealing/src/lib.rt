@@ -1,4 +1,6 @@
 // Theft: the youngest entry that holds a register loses it.
+#![tactic(auto)]
+
 ghost use Rattle.std.specs.Prelude.{◌≡◌, ◌≤◌, ◌<◌};
 ghost use Rattle.renaming.specs.Changes.{change_all};
 ghost use Rattle.stealing.specs.Steal as Steal;

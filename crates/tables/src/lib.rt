@@ -1,4 +1,6 @@
 // The tables that the renaming calls are made of: free lists, maps, operands, entries.
+#![tactic(auto)]
+
 pub mod entries;
 pub mod free_list;
 pub mod maps;

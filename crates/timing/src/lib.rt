@@ -1,4 +1,6 @@
 // Exported for the benchmark of the in-order run, docs/SPEED.md, and for nothing else.
+#![tactic(auto)]
+
 ghost use Rattle.std.specs.Prelude.{◌≡◌};
 ghost use Rattle.timing.specs.Timing as Timing;
 

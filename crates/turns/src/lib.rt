@@ -1,5 +1,7 @@
 // One turn of replay's loop: which way an event goes, and what each way changes in the tables that the loop lends. These are
 // inner functions: only the loop calls them.
+#![tactic(auto)]
+
 pub mod changes;
 pub mod ways;
 

@@ -1,4 +1,6 @@
 // What the test programs share: words and registers read from records, bytes laid out, registers compared, counts printed.
+#![tactic(auto)]
+
 ghost use Rattle.std.specs.Prelude.{◌≡◌, true, ℕ, ◌+◌, ◌*◌, ◌^◌, ◌<◌, length, get_or};
 ghost use Rattle.vectors.specs.Records.{joined, word_at, Laid};
 

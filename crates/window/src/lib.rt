@@ -1,4 +1,6 @@
 // The Window level: a renaming core driven call by call. The work of each call is in a crate of its own.
+#![tactic(auto)]
+
 pub mod calling;
 pub mod draining;
 pub mod making;

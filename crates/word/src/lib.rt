@@ -1,4 +1,6 @@
 // 32-bit words: parts, two's complement, arithmetic, bytes in memory.
+#![tactic(auto)]
+
 pub mod arithmetic;
 pub mod bytes;
 pub mod fields;

@@ -1,1 +1,2 @@
 // Document 01's worked values: see specs.
+#![tactic(auto)]
