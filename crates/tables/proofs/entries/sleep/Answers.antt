@@ -1,0 +1,6 @@
+use borrow.Author.Rules.{rules}
+use Rattle.tables.proofs.entries.sleep.Goals as goal
+
+pub returns : goal.returns
+returns c =
+    rw (c.with_operands.ensures, c.sleep.ensures, c.sleep-2.ensures)

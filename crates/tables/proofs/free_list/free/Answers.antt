@@ -1,0 +1,11 @@
+use borrow.Author.Tests.{eq-eqb, ne_eqb}
+use borrow.Author.Rules.{rules}
+use Rattle.tables.proofs.free_list.free.Goals as goal
+
+pub returns-then-n-eq0 : goal.returns-then-n-eq0
+returns-then-n-eq0 c =
+    (rw (eq-eqb _ _ c.if-n-eq0.true), c.store_under.ensures)
+
+pub returns-else-n-eq0 : goal.returns-else-n-eq0
+returns-else-n-eq0 c =
+    (rw (ne_eqb _ _ c.if-n-eq0.false), c.store_under.ensures)

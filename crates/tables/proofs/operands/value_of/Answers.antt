@@ -1,0 +1,6 @@
+use borrow.Author.Rules.{rules}
+use Rattle.tables.proofs.operands.value_of.Goals as goal
+
+pub returns-in-Ready : goal.returns-in-Ready
+returns-in-Ready c =
+    rw c.in-Ready.is c.value.ensures
