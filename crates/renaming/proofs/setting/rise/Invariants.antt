@@ -1,0 +1,15 @@
+use Prim.Native.Nat.{ℕ, ◌-◌, ◌≤◌, ◌<◌}
+use mathlib.Core.Path.{◌≡◌, sym, ◌∙◌}
+use native.Mathlib.Omega.{arith}
+use borrow.Author.Rules.{rules}
+use lib.ListN.{length, get_or, length-set}
+use lib.Seq.{ext_get_or}
+use Rattle.renaming.specs.SetUp.{rising_next, rising_link}
+use Rattle.renaming.proofs.TabulateLaws.{tabulate_length, tabulate_at, filled_more}
+use Rattle.renaming.proofs.setting.rise.Given as goal
+
+abbrev pub invariant-loop-k : goal.invariant-loop-k
+invariant-loop-k l = (length l.link ≡ 96) × (l.k ≤ 96) × ((j : ℕ) → j < l.k → get_or l.link j 0 ≡ rising_next l.last j)
+
+abbrev pub decreases-loop-k : goal.decreases-loop-k
+decreases-loop-k l = 96 - l.k
