@@ -1,0 +1,6 @@
+use borrow.Author.Rules.{rules}
+use Rattle.decoding.proofs.ended.Goals as goal
+
+pub returns : goal.returns
+returns c =
+    rw c.add.ensures

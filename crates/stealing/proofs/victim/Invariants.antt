@@ -1,0 +1,13 @@
+use borrow.Author.Rules.{rules}
+use Prim.Native.Nat.{ℕ, suc, ◌-◌, ◌≤◌, ◌<◌}
+use mathlib.Core.Path.{◌≡◌, sym, ap, ◌∙◌}
+use native.Mathlib.Omega.{arith}
+use Rattle.stealing.specs.Steal.{victim_among, victim_of}
+use Rattle.stealing.proofs.StealLaws.{found_at, passed_at, none_at}
+use Rattle.stealing.proofs.victim.Given as goal
+
+abbrev pub invariant-loop-k : goal.invariant-loop-k
+invariant-loop-k l = (l.position ≤ l.k) × (l.k < l.core.count) × (victim_among (l.k - l.position) l.core.physical l.core.entries l.position ≡ victim_of l.core l.position)
+
+abbrev pub decreases-loop-k : goal.decreases-loop-k
+decreases-loop-k l = l.k
