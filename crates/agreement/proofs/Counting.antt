@@ -1,6 +1,6 @@
 -- How often a number stands in a list, and what that says of the chain of a pool.
 use Prim.Native.Nat.{ℕ, zero, suc, ◌+◌, ◌≤◌, ◌<◌}
-use mathlib.Core.Path.{◌≡◌, refl, ap, sym, ◌∙◌}
+use mathlib.Core.Path.{◌≡◌, refl, ap, sym, subst, ◌∙◌}
 use mathlib.Core.Logic.{◌≢◌}
 use mathlib.Core.List.{List, [], ◌∷◌, ◌++◌}
 use native.Mathlib.Omega.{arith}
@@ -62,7 +62,7 @@ count_once (x ∷ xs) zero (suc j) h k e o =
     let one : 1 ≤ occurrences x xs = rw e (count_at xs j (omega arith)) in omega (arith, same_refl x)
 count_once (x ∷ xs) (suc i) zero h k e o =
     let one : 1 ≤ occurrences x xs = rw (← e) (count_at xs i (omega arith)) in
-    let two : occurrences x (x ∷ xs) ≤ 1 = rw e at o in omega (arith, same_refl x)
+    let two : occurrences x (x ∷ xs) ≤ 1 = subst (λ y. occurrences y (x ∷ xs) ≤ 1) e o in omega (arith, same_refl x)
 count_once (x ∷ xs) (suc i) (suc j) h k e o = ap suc (count_once xs i j (omega arith) (omega arith) e (omega arith))
 
 -- a number that stands somewhere occurs

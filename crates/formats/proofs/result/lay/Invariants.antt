@@ -1,0 +1,15 @@
+use Prim.Native.Nat.{◌+◌, ◌*◌, ◌-◌, ◌≤◌}
+use lib.ListN.{length, get_or, take}
+use Rattle.formats.proofs.ResultLaws.{laid, all_laid}
+use mathlib.Core.Path.{◌≡◌, refl, ap, ◌∙◌}
+use native.Mathlib.Omega.{arith}
+use borrow.Author.Rules.{rules}
+use Rattle.word.proofs.BytesLaws.{put_length}
+use Rattle.formats.specs.Result.{result_words, result_length, result_bytes}
+use Rattle.formats.proofs.result.lay.Given as goal
+
+abbrev pub invariant-loop-i : goal.invariant-loop-i
+invariant-loop-i l = (l.i ≤ result_words) × (length l.res ≡ result_length) × (take (4 * l.i) l.res ≡ result_bytes (take l.i l.words))
+
+abbrev pub decreases-loop-i : goal.decreases-loop-i
+decreases-loop-i l = result_words - l.i
