@@ -1,0 +1,22 @@
+use Prim.Native.Nat.{ℕ, ◌+◌, ◌*◌, ◌-◌, ◌≤◌}
+use mathlib.Core.Path.{◌≡◌, ap, ◌∙◌}
+use native.Mathlib.Omega.{arith}
+use borrow.Author.Rules.{rules}
+use lib.ListN.{length, drop}
+use Rattle.isa.specs.Listing.{last}
+use Rattle.timing.specs.Timing.{operations}
+use Rattle.timing.proofs.Sums.{next, round_over, found, too_many}
+use Rattle.timing.proofs.timing_find.Given as goal
+
+abbrev pub invariant-loop-k : goal.invariant-loop-k
+invariant-loop-k l =
+    (l.k ≤ length l.words) × (l.sum ≤ l.round * round-most + last * l.k) × (l.sum + operations (drop l.k l.words) ≡ l.initial.sum + operations l.words)
+
+abbrev pub decreases-loop-k : goal.decreases-loop-k
+decreases-loop-k l = length l.words - l.k
+
+abbrev pub invariant-loop-round : goal.invariant-loop-round
+invariant-loop-round l = (l.round ≤ l.rounds) × (l.sum ≤ l.round * round-most) × (l.sum ≡ l.round * operations l.words)
+
+abbrev pub decreases-loop-round : goal.decreases-loop-round
+decreases-loop-round l = l.rounds - l.round
