@@ -8,10 +8,6 @@ use Rattle.timing.specs.Timing.{operations}
 use Rattle.timing.proofs.Sums.{next, round_over, found, too_many}
 use Rattle.timing.proofs.timing_find.Goals as goal
 
--- the most that a round adds: the last operation for each of 4,096 words
-abbrev round-most : ℕ
-round-most = 4_096 * last
-
 pub returns-then-words-gt4096 : goal.returns-then-words-gt4096
 returns-then-words-gt4096 c =
     too_many c.args.words.now c.args.rounds c.if-words-gt4096.true

@@ -46,7 +46,7 @@ loop-made-preserved c =
     let left : (a.calls - l.made) * 65_535 ≡ 65_535 + (a.calls - (l.made + 1)) * 65_535 = omega arith in (
       omega arith,
       search rules,
-      r.auto.1.0 ∙ l.invariant.2,
+      search rules,
       call_goes_on 65_535 ((a.calls - (l.made + 1)) * 65_535) l.steps a.program.now s r.result _ accepted r.ensures c.if-stop-ne0.false
           ∙ ap (λ (x : ℕ). after l.steps (run_of x a.program.now s)) (sym left)
           ∙ l.invariant.3,
