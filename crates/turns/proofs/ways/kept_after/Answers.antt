@@ -1,0 +1,15 @@
+use native.Mathlib.Omega.{arith}
+use native.Mathlib.Numerals.{add-one}
+use borrow.Author.Tests.{eq-eqb, ne_eqb}
+use borrow.Author.Rules.{rules}
+use Rattle.turns.proofs.ways.kept_after.Reads as reads
+use Rattle.turns.proofs.ways.kept_after.Lts as lts
+use Rattle.turns.proofs.ways.kept_after.Goals as goal
+
+pub returns-then-next-predicted : goal.returns-then-next-predicted
+returns-then-next-predicted c =
+    (rw (eq-eqb _ _ c.if-next-predicted.true), omega arith)
+
+pub returns-else-next-predicted : goal.returns-else-next-predicted
+returns-else-next-predicted c =
+    (rw (ne_eqb _ _ c.if-next-predicted.false, add-one), omega arith)
