@@ -1,7 +1,7 @@
 -- The one test of the table, and what it says of each row.
 use mathlib.Core.Path.{◌≡◌, refl}
 use mathlib.Core.Bool.{Bool, true}
-use mathlib.Core.List.{List, ◌∷◌}
+use mathlib.Core.List.{List, [], ◌∷◌}
 use Rattle.laws.proofs.Bools.{and_left, and_right}
 use Rattle.word.specs.Field.{field}
 use Rattle.word.specs.Signed.{extend}
@@ -43,6 +43,7 @@ passes = refl
 -- what passes at every row passes at each
 pub every_in : (f : Row → Bool) (r : Row) (rows : List Row) → In r rows → every f rows ≡ true → f r ≡ true
 unfolding every
+every_in f r [] i t = elim i [ ]
 every_in f r (_ ∷ rows) here t = and_left (f r) (every f rows) t
 every_in f r (other ∷ rows) (there i) t = every_in f r rows i (and_right (f other) (every f rows) t)
 
