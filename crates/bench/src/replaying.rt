@@ -116,7 +116,7 @@ fn nothing(number: u8) -> Replayed
 // Makes the events of a schedule on a fresh machine, writes the data as its stores do, and the words to the result; at a
 // refusal nothing lent changes.
 pub fn replay(program: &[u8], data: &mut [u8], schedule: &[u8], res: &mut [u8]) -> Replayed
-    ensures* { λ r. ⌜ Replay.replay_of program.now «data».old schedule.now res.old ≡ record { answer = r; memory = «data».new; result = res.new } ⌝ }
+    ensures { Replay.replay_of program.now «data».old schedule.now res.old ≡ record { answer = result; memory = «data».new; result = res.new } }
 {
     let number = refusal(program, data, schedule, res.len());
     if number != 0 {

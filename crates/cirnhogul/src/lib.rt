@@ -15,7 +15,7 @@ pub extern "C" fn cirnhogul_replay(
     schedule: &[u8],
     res: &mut [u8],
 ) -> u32
-    ensures* { λ r. ⌜ Exported.numbered (replay_of program.now «data».old schedule.now res.old) ≡ record { number = r; memory = «data».new; result = res.new } ⌝ }
+    ensures { Exported.numbered (replay_of program.now «data».old schedule.now res.old) ≡ record { number = result; memory = «data».new; result = res.new } }
 {
     let found = bench::replay(program, data, schedule, res);
     found.number
