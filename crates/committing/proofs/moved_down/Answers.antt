@@ -11,8 +11,8 @@ use Rattle.renaming.proofs.ChangeLaws.{length_mapped}
 use Rattle.committing.proofs.moved_down.Goals.{Start}
 use Rattle.committing.proofs.moved_down.Goals as goal
 
-entries-long : (s : Start) → length s.args.core.entries ≡ 64
-entries-long s = search (rules, length_mapped)
+entries_long : (s : Start) → length s.args.core.entries ≡ 64
+entries_long s = search (rules, length_mapped)
 
 pub overflow_sub-last : goal.overflow_sub-last
 overflow_sub-last c =
@@ -69,7 +69,7 @@ loop-k-preserved c =
     let l = c.loop-k in
     let below = c.loop-k-test.true in
     let most = c.requires.1 in
-    let long = entries-long (goal.at.loop-k-preserved c).Start in
+    let long = entries_long (goal.at.loop-k-preserved c).Start in
     (omega arith, shift_turn c.args.core l.core l.k (omega arith) l.invariant.1)
 
 pub offset_bounds-core-last : goal.offset_bounds-core-last
@@ -90,6 +90,6 @@ returns c =
     let l = c.loop-k in
     let last : l.k ≡ m.count - 1 = omega (arith, l.invariant.0, c.loop-k-test.false) in
     let most = c.requires.1 in
-    let long = entries-long (goal.at.returns c).Start in
+    let long = entries_long (goal.at.returns c).Start in
     let whole = l.invariant.1 ∙ ap (λ (k : ℕ). with_entries (shifted k m.entries) m) last in
     shift_done m l.core (m.count - 1) c.empty-empty.result c.requires.0 refl (omega arith) whole c.empty-empty.ensures

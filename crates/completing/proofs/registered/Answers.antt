@@ -13,8 +13,8 @@ use borrow.Author.Rules.{rules}
 use Rattle.completing.proofs.registered.Goals as goal
 
 -- the victim is an entry
-victim-inside : (m : Core) (position victim : ℕ) → position < m.count → victim ≡ victim_of m position → victim < m.count
-victim-inside m position victim h e = omega (arith, e, victim_within m position h)
+victim_inside : (m : Core) (position victim : ℕ) → position < m.count → victim ≡ victim_of m position → victim < m.count
+victim_inside m position victim h e = omega (arith, e, victim_within m position h)
 
 pub returns-then-e-eq0 : goal.returns-then-e-eq0
 returns-then-e-eq0 c =
@@ -28,19 +28,19 @@ returns-then-head-ne0 c =
 
 pub offset_bounds-core-holder : goal.offset_bounds-core-holder
 offset_bounds-core-holder c =
-    let inside = victim-inside c.args.core c.args.position c.victim-holder.result c.requires.0 c.victim-holder.ensures in
+    let inside = victim_inside c.args.core c.args.position c.victim-holder.result c.requires.0 c.victim-holder.ensures in
     let most = c.requires.1 in
     omega arith
 
 pub bounds-core-holder : goal.bounds-core-holder
 bounds-core-holder c =
-    let inside = victim-inside c.args.core c.args.position c.victim-holder.result c.requires.0 c.victim-holder.ensures in
+    let inside = victim_inside c.args.core c.args.position c.victim-holder.result c.requires.0 c.victim-holder.ensures in
     let most = c.requires.1 in
     omega arith
 
 pub robbed-supplied-requires : goal.robbed-supplied-requires
 robbed-supplied-requires c =
-    (victim-inside c.args.core c.args.position c.victim-holder.result c.requires.0 c.victim-holder.ensures, c.requires.1)
+    (victim_inside c.args.core c.args.position c.victim-holder.result c.requires.0 c.victim-holder.ensures, c.requires.1)
 
 pub learned-requires-2 : goal.learned-requires-2
 learned-requires-2 c =

@@ -5,16 +5,16 @@ use borrow.Author.Rules.{rules}
 use Rattle.decoding.proofs.renamed.Goals.{Start}
 use Rattle.decoding.proofs.renamed.Goals as goal
 
-name-long : (s : Start) → length s.args.core.namelink ≡ 96
-name-long s = search rules
+name_long : (s : Start) → length s.args.core.namelink ≡ 96
+name_long s = search rules
 
 pub look_up-following-requires : goal.look_up-following-requires
 look_up-following-requires c =
-    name-long (goal.at.look_up-following-requires c).Start
+    name_long (goal.at.look_up-following-requires c).Start
 
 pub store_under-requires : goal.store_under-requires
 store_under-requires c =
-    name-long (goal.at.store_under-requires c).Start
+    name_long (goal.at.store_under-requires c).Start
 
 pub returns : goal.returns
 returns c =

@@ -5,26 +5,26 @@ use borrow.Author.Rules.{rules}
 use Rattle.stealing.proofs.robbed.Goals.{Start}
 use Rattle.stealing.proofs.robbed.Goals as goal
 
-mapregister-long : (s : Start) → length s.args.core.mapregister ≡ 32
-mapregister-long s = search rules
+mapregister_long : (s : Start) → length s.args.core.mapregister ≡ 32
+mapregister_long s = search rules
 
-mapvalid-long : (s : Start) → length s.args.core.mapvalid ≡ 32
-mapvalid-long s = search rules
+mapvalid_long : (s : Start) → length s.args.core.mapvalid ≡ 32
+mapvalid_long s = search rules
 
-physical-long : (s : Start) → length s.args.core.physical ≡ 96
-physical-long s = search rules
+physical_long : (s : Start) → length s.args.core.physical ≡ 96
+physical_long s = search rules
 
 pub map_where-requires : goal.map_where-requires
 map_where-requires c =
-    mapregister-long (goal.at.map_where-requires c).Start
+    mapregister_long (goal.at.map_where-requires c).Start
 
 pub valid_where-requires : goal.valid_where-requires
 valid_where-requires c =
-    mapvalid-long (goal.at.valid_where-requires c).Start
+    mapvalid_long (goal.at.valid_where-requires c).Start
 
 pub store_under-requires : goal.store_under-requires
 store_under-requires c =
-    physical-long (goal.at.store_under-requires c).Start
+    physical_long (goal.at.store_under-requires c).Start
 
 pub returns : goal.returns
 returns c =

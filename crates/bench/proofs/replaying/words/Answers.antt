@@ -11,8 +11,8 @@ use Rattle.bench.proofs.WordLaws.{words_long}
 use Rattle.bench.proofs.replaying.words.Goals.{Start}
 use Rattle.bench.proofs.replaying.words.Goals as goal
 
-registers-long : (s : Start) → length s.args.r.registers ≡ 32
-registers-long s = search rules
+registers_long : (s : Start) → length s.args.r.registers ≡ 32
+registers_long s = search rules
 
 pub loop-k-init : goal.loop-k-init
 loop-k-init c = (refl, omega arith, λ j h. absurd (omega arith))
@@ -37,4 +37,4 @@ pub returns : goal.returns
 returns c =
     let r = c.args.r in
     let l = c.loop-k in
-    ext_get_or 0 l.words (words_of r) (l.invariant.0 ∙ sym (words_long r (registers-long (goal.at.returns c).Start))) (λ i h. l.invariant.2 i (omega (arith, l.invariant.0, c.loop-k-test.false)))
+    ext_get_or 0 l.words (words_of r) (l.invariant.0 ∙ sym (words_long r (registers_long (goal.at.returns c).Start))) (λ i h. l.invariant.2 i (omega (arith, l.invariant.0, c.loop-k-test.false)))

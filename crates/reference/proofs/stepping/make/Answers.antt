@@ -50,37 +50,37 @@ module _ (p : After-perform-outcome) where
   abbrev memory : List ℕ
   memory = p.args.«data».now
 
-  action-is : action_at p.class-class.result p.kind-kind.result ≡ action_of p.args.i.operation
-  action-is = action_of_lem p.args.i.operation _ _ p.requires.0 p.class-class.ensures p.kind-kind.ensures
+  action_is : action_at p.class-class.result p.kind-kind.result ≡ action_of p.args.i.operation
+  action_is = action_of_lem p.args.i.operation _ _ p.requires.0 p.class-class.ensures p.kind-kind.ensures
 
-  constant-is : p.to_word-constant.result ≡ of_z w32 p.args.i.constant
-  constant-is = p.to_word-constant.ensures ∙ ap (of_z w32) (to_z-of_z w32 p.args.i.constant (search rules))
+  constant_is : p.to_word-constant.result ≡ of_z w32 p.args.i.constant
+  constant_is = p.to_word-constant.ensures ∙ ap (of_z w32) (to_z-of_z w32 p.args.i.constant (search rules))
 
   address_is : p.add-at.result ≡ effective p.args.i first
-  address_is = p.add-at.ensures ∙ ap (sum first) constant-is
+  address_is = p.add-at.ensures ∙ ap (sum first) constant_is
 
-  first-is : first ≡ read_register p.args.registers.now (first_source p.args.i)
-  first-is = p.read-first.ensures ∙ ap (read_register p.args.registers.now) p.first_source.ensures
+  first_is : first ≡ read_register p.args.registers.now (first_source p.args.i)
+  first_is = p.read-first.ensures ∙ ap (read_register p.args.registers.now) p.first_source.ensures
 
-  operand-is : p.read-operand.result ≡ read_register p.args.registers.now (second_source p.args.i)
-  operand-is = p.read-operand.ensures ∙ ap (read_register p.args.registers.now) p.second_source.ensures
+  operand_is : p.read-operand.result ≡ read_register p.args.registers.now (second_source p.args.i)
+  operand_is = p.read-operand.ensures ∙ ap (read_register p.args.registers.now) p.second_source.ensures
 
   second_is : p.second_by-second.result ≡ second_value p.args.i first p.read-operand.result memory
   second_is =
       p.second_by-second.ensures
-      ∙ ap (λ (x : Action). second_by x (length memory) p.add-at.result p.read-operand.result (byte_of memory)) action-is
+      ∙ ap (λ (x : Action). second_by x (length memory) p.add-at.result p.read-operand.result (byte_of memory)) action_is
       ∙ ap (λ (n : ℕ). second_by (action_of p.args.i.operation) (length memory) n p.read-operand.result (byte_of memory)) address_is
 
   outcome_is : p.perform-outcome.result ≡ executed (length memory) p.args.i p.args.address first p.second_by-second.result
   outcome_is =
       p.perform-outcome.ensures
-      ∙ ap (λ (x : Action). executed_by x (length memory) p.args.address p.to_word-constant.result first p.second_by-second.result) action-is
-      ∙ ap (λ (n : ℕ). executed_by (action_of p.args.i.operation) (length memory) p.args.address n first p.second_by-second.result) constant-is
+      ∙ ap (λ (x : Action). executed_by x (length memory) p.args.address p.to_word-constant.result first p.second_by-second.result) action_is
+      ∙ ap (λ (n : ℕ). executed_by (action_of p.args.i.operation) (length memory) p.args.address n first p.second_by-second.result) constant_is
 
   stored_is : stored_by (action_at p.class-class.result p.kind-kind.result) p.add-at.result p.second_by-second.result memory
       ≡ stored p.args.i first p.second_by-second.result memory
   stored_is =
-      ap (λ (x : Action). stored_by x p.add-at.result p.second_by-second.result memory) action-is
+      ap (λ (x : Action). stored_by x p.add-at.result p.second_by-second.result memory) action_is
       ∙ ap (λ (n : ℕ). stored_by (action_of p.args.i.operation) n p.second_by-second.result memory) address_is
 
 pub returns-then-stop-eq0 : goal.returns-then-stop-eq0
@@ -88,11 +88,11 @@ returns-then-stop-eq0 c =
     let a = c.args in
     let s = state a.registers.now a.address a.«data».now in
     let d = c.destination_of.ensures in
-    step_made a.i s (first (goal.at.returns-then-stop-eq0 c).After-perform-outcome) c.read-operand.result c.second_by-second.result c.perform-outcome.result (first-is (goal.at.returns-then-stop-eq0 c).After-perform-outcome) (operand-is (goal.at.returns-then-stop-eq0 c).After-perform-outcome) (second_is (goal.at.returns-then-stop-eq0 c).After-perform-outcome) (outcome_is (goal.at.returns-then-stop-eq0 c).After-perform-outcome) c.if-stop-eq0.true _ _
+    step_made a.i s (first (goal.at.returns-then-stop-eq0 c).After-perform-outcome) c.read-operand.result c.second_by-second.result c.perform-outcome.result (first_is (goal.at.returns-then-stop-eq0 c).After-perform-outcome) (operand_is (goal.at.returns-then-stop-eq0 c).After-perform-outcome) (second_is (goal.at.returns-then-stop-eq0 c).After-perform-outcome) (outcome_is (goal.at.returns-then-stop-eq0 c).After-perform-outcome) c.if-stop-eq0.true _ _
     (c.write.ensures ∙ ap (λ (r : ℕ). write_register a.registers.now r c.perform-outcome.result.result) d) (c.store_by.ensures ∙ stored_is (goal.at.returns-then-stop-eq0 c).After-perform-outcome)
 
 pub returns-else-stop-eq0 : goal.returns-else-stop-eq0
 returns-else-stop-eq0 c =
     let a = c.args in
     let s = state a.registers.now a.address a.«data».now in
-    step_not_made a.i s (first (goal.at.returns-else-stop-eq0 c).After-perform-outcome) c.read-operand.result c.second_by-second.result c.perform-outcome.result (first-is (goal.at.returns-else-stop-eq0 c).After-perform-outcome) (operand-is (goal.at.returns-else-stop-eq0 c).After-perform-outcome) (second_is (goal.at.returns-else-stop-eq0 c).After-perform-outcome) (outcome_is (goal.at.returns-else-stop-eq0 c).After-perform-outcome) c.if-stop-eq0.false
+    step_not_made a.i s (first (goal.at.returns-else-stop-eq0 c).After-perform-outcome) c.read-operand.result c.second_by-second.result c.perform-outcome.result (first_is (goal.at.returns-else-stop-eq0 c).After-perform-outcome) (operand_is (goal.at.returns-else-stop-eq0 c).After-perform-outcome) (second_is (goal.at.returns-else-stop-eq0 c).After-perform-outcome) (outcome_is (goal.at.returns-else-stop-eq0 c).After-perform-outcome) c.if-stop-eq0.false

@@ -8,20 +8,20 @@ use borrow.Author.Rules.{rules}
 use Rattle.renaming.proofs.Core.in_range.Goals.{Start}
 use Rattle.renaming.proofs.Core.in_range.Goals as goal
 
-registerlink-long : (s : Start) → length s.args.self.registerlink ≡ 96
-registerlink-long s = search rules
+registerlink_long : (s : Start) → length s.args.self.registerlink ≡ 96
+registerlink_long s = search rules
 
-namelink-long : (s : Start) → length s.args.self.namelink ≡ 96
-namelink-long s = search rules
+namelink_long : (s : Start) → length s.args.self.namelink ≡ 96
+namelink_long s = search rules
 
-physical-long : (s : Start) → length s.args.self.physical ≡ 96
-physical-long s = search rules
+physical_long : (s : Start) → length s.args.self.physical ≡ 96
+physical_long s = search rules
 
-mapname-long : (s : Start) → length s.args.self.mapname ≡ 32
-mapname-long s = search rules
+mapname_long : (s : Start) → length s.args.self.mapname ≡ 32
+mapname_long s = search rules
 
-mapregister-long : (s : Start) → length s.args.self.mapregister ≡ 32
-mapregister-long s = search rules
+mapregister_long : (s : Start) → length s.args.self.mapregister ≡ 32
+mapregister_long s = search rules
 
 pub returns-then-not-setup_in_range : goal.returns-then-not-setup_in_range
 returns-then-not-setup_in_range c =
@@ -34,7 +34,7 @@ returns-then-s-self c =
 pub tables_in_range-requires : goal.tables_in_range-requires
 tables_in_range-requires c =
     let z = setup_sizes c.args.self.setup (sym c.setup_in_range.ensures ∙ c.if-not-setup_in_range.false) in
-    (z.window_to, z.registers_to, registerlink-long (goal.at.tables_in_range-requires c).Start, namelink-long (goal.at.tables_in_range-requires c).Start, physical-long (goal.at.tables_in_range-requires c).Start, mapname-long (goal.at.tables_in_range-requires c).Start, mapregister-long (goal.at.tables_in_range-requires c).Start)
+    (z.window_to, z.registers_to, registerlink_long (goal.at.tables_in_range-requires c).Start, namelink_long (goal.at.tables_in_range-requires c).Start, physical_long (goal.at.tables_in_range-requires c).Start, mapname_long (goal.at.tables_in_range-requires c).Start, mapregister_long (goal.at.tables_in_range-requires c).Start)
 
 pub entries_in_range-requires : goal.entries_in_range-requires
 entries_in_range-requires c =

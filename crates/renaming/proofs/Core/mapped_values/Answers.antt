@@ -11,11 +11,11 @@ use Rattle.renaming.proofs.Core.mapped_values.Goals.{Start}
 use Rattle.renaming.proofs.Core.mapped_values.Goals as goal
 
 -- the tables' lengths
-map-long : (s : Start) → length s.args.self.mapregister ≡ 32
-map-long s = search rules
+map_long : (s : Start) → length s.args.self.mapregister ≡ 32
+map_long s = search rules
 
-values-long : (s : Start) → length s.args.self.values ≡ 96
-values-long s = search rules
+values_long : (s : Start) → length s.args.self.values ≡ 96
+values_long s = search rules
 
 pub loop-r-init : goal.loop-r-init
 loop-r-init c =
@@ -23,11 +23,11 @@ loop-r-init c =
 
 pub mapped-register-requires : goal.mapped-register-requires
 mapped-register-requires c =
-    map-long (goal.at.mapped-register-requires c).Start
+    map_long (goal.at.mapped-register-requires c).Start
 
 pub value-requires : goal.value-requires
 value-requires c =
-    values-long (goal.at.value-requires c).Start
+    values_long (goal.at.value-requires c).Start
 
 pub bounds-registers-r : goal.bounds-registers-r
 bounds-registers-r c =
