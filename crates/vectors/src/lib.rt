@@ -4,7 +4,8 @@
 ghost use Rattle.std.specs.Prelude.{◌≡◌, true, ℕ, ◌+◌, ◌*◌, ◌^◌, ◌<◌, length, get_or};
 ghost use Rattle.vectors.specs.Records.{joined, word_at, Laid};
 
-use libc::STDOUT_FILENO;
+// the descriptor of standard output
+const STDOUT_FILENO: i32 = 1;
 
 fn wide(x: u8) -> u32
     ensures { result ≡ x }
