@@ -1,8 +1,10 @@
 // The machines that are damaged: every pair of W and N at the ends of their ranges, fresh or with a full window.
 use crate::judging::Tally;
 use crate::{damage, judging, samples};
-use libc::STDOUT_FILENO;
 use renaming::Core;
+
+// the descriptor of standard output
+const STDOUT_FILENO: i32 = 1;
 
 fn window_at(k: u32) -> u32 {
     match k {

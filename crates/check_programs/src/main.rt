@@ -6,33 +6,37 @@ mod compiled;
 mod random;
 mod tally;
 
-fn random_programs() {
-    let fd = os::open_read(b"programs.bin");
-    if fd < 0 {
-        os::fail(b"programs.bin");
-        return;
-    }
-    let t = random::all(fd);
-    libc::close(fd);
+use std::fs::File;
+use std::os::fd::AsRawFd;
+use std::rt::Files;
+
+fn random_programs(rt: &(impl Files<File = File> + Eprint)) -> std::io::Result<()> {
+    let file = match File::open(rt, "programs.bin") {
+        Ok(file) => file,
+        Err(e) => return eprintln!(rt; "programs.bin: {e}"),
+    };
+    let t = random::all(file.as_raw_fd());
+    drop(file);
     vectors::print(b"programs ", t.tested);
     vectors::print(b"differ ", t.differ);
     vectors::print(b"steps ", t.steps);
+    Ok(())
 }
 
-fn compiled_programs() {
-    let fd = os::open_read(b"compiled.bin");
-    if fd < 0 {
-        os::fail(b"compiled.bin");
-        return;
-    }
-    let t = compiled::all(fd);
-    libc::close(fd);
+fn compiled_programs(rt: &(impl Files<File = File> + Eprint)) -> std::io::Result<()> {
+    let file = match File::open(rt, "compiled.bin") {
+        Ok(file) => file,
+        Err(e) => return eprintln!(rt; "compiled.bin: {e}"),
+    };
+    let t = compiled::all(file.as_raw_fd());
+    drop(file);
     vectors::print(b"compiled ", t.tested);
     vectors::print(b"differ ", t.differ);
     vectors::print(b"steps ", t.steps);
+    Ok(())
 }
 
-fn main() {
-    random_programs();
-    compiled_programs();
+fn main(rt: HostRuntime) -> std::io::Result<()> {
+    random_programs(&rt)?;
+    compiled_programs(&rt)
 }

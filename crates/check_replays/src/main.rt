@@ -6,7 +6,12 @@
 mod cases;
 mod tally;
 
+use std::fs::File;
+use std::os::fd::AsRawFd;
 use tally::Tally;
+
+// the descriptor of standard output
+const STDOUT_FILENO: i32 = 1;
 
 fn print_numbers(t: Tally) {
     vectors::print(b"number 0 ", t.numbers[0]);
@@ -31,19 +36,19 @@ fn print_sums(t: Tally) {
     vectors::print(b"dropped ", t.dropped);
 }
 
-fn main() {
-    let fd = os::open_read(b"cases.bin");
-    if fd < 0 {
-        os::fail(b"cases.bin");
-        return;
-    }
-    let t = cases::all(fd);
-    libc::close(fd);
+fn main(rt: HostRuntime) -> std::io::Result<()> {
+    let file = match File::open(&rt, "cases.bin") {
+        Ok(file) => file,
+        Err(e) => return eprintln!(rt; "cases.bin: {e}"),
+    };
+    let t = cases::all(file.as_raw_fd());
+    drop(file);
     if !t.whole {
-        io::write_all(libc::STDOUT_FILENO, b"cases.bin breaks off within a case\n");
+        io::write_all(STDOUT_FILENO, b"cases.bin breaks off within a case\n");
     }
     vectors::print(b"cases ", t.cases);
     vectors::print(b"differ ", t.differ);
     print_numbers(t);
     print_sums(t);
+    Ok(())
 }

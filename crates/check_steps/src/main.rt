@@ -5,14 +5,17 @@
 mod own;
 mod qemu;
 
-fn qemu_steps() {
-    let fd = os::open_read(b"steps.bin");
-    if fd < 0 {
-        os::fail(b"steps.bin");
-        return;
-    }
-    let t = qemu::all(fd);
-    libc::close(fd);
+use std::fs::File;
+use std::os::fd::AsRawFd;
+use std::rt::Files;
+
+fn qemu_steps(rt: &(impl Files<File = File> + Eprint)) -> std::io::Result<()> {
+    let file = match File::open(rt, "steps.bin") {
+        Ok(file) => file,
+        Err(e) => return eprintln!(rt; "steps.bin: {e}"),
+    };
+    let t = qemu::all(file.as_raw_fd());
+    drop(file);
     vectors::print(b"steps ", t.tested);
     vectors::print(b"differ ", t.differ);
     vectors::print(b"cause 1 ", t.stops[1]);
@@ -22,21 +25,22 @@ fn qemu_steps() {
     vectors::print(b"cause 5 ", t.stops[5]);
     vectors::print(b"cause 6 ", t.stops[6]);
     vectors::print(b"cause 7 ", t.stops[7]);
+    Ok(())
 }
 
-fn own_steps() {
-    let fd = os::open_read(b"own.bin");
-    if fd < 0 {
-        os::fail(b"own.bin");
-        return;
-    }
-    let t = own::all(fd);
-    libc::close(fd);
+fn own_steps(rt: &(impl Files<File = File> + Eprint)) -> std::io::Result<()> {
+    let file = match File::open(rt, "own.bin") {
+        Ok(file) => file,
+        Err(e) => return eprintln!(rt; "own.bin: {e}"),
+    };
+    let t = own::all(file.as_raw_fd());
+    drop(file);
     vectors::print(b"own ", t.tested);
     vectors::print(b"differ ", t.differ);
+    Ok(())
 }
 
-fn main() {
-    qemu_steps();
-    own_steps();
+fn main(rt: HostRuntime) -> std::io::Result<()> {
+    qemu_steps(&rt)?;
+    own_steps(&rt)
 }

@@ -16,8 +16,8 @@ mod words;
 // in legal.bin alike. When these operations come, this number rises, and counts.rt gets a line for each.
 pub const LAST_OPERATION: u8 = 39;
 
-fn main() {
-    words::test();
-    patterns::test();
-    refusals::test();
+fn main(rt: HostRuntime) -> std::io::Result<()> {
+    words::test(&rt)?;
+    patterns::test(&rt)?;
+    refusals::test(&rt)
 }

@@ -3,6 +3,9 @@ use crate::LAST_OPERATION;
 use crate::number::wide;
 use crate::tally::Tally;
 use crate::words::legal;
+use std::fs::File;
+use std::os::fd::AsRawFd;
+use std::rt::Files;
 
 // the i-th pattern's word: bits 31-25, 14-12 and 6-0 from i; rd 1, rs1 2, rs2 3
 fn pattern(i: u32) -> u32 {
@@ -54,13 +57,13 @@ fn every(fd: i32) -> Tally {
     t
 }
 
-pub fn test() {
-    let fd = os::open_read(b"legal.bin");
-    if fd < 0 {
-        os::fail(b"legal.bin");
-        return;
-    }
-    let t = every(fd);
-    libc::close(fd);
+pub fn test(rt: &(impl Files<File = File> + Eprint)) -> std::io::Result<()> {
+    let file = match File::open(rt, "legal.bin") {
+        Ok(file) => file,
+        Err(e) => return eprintln!(rt; "legal.bin: {e}"),
+    };
+    let t = every(file.as_raw_fd());
+    drop(file);
     t.print(b"patterns ");
+    Ok(())
 }

@@ -1,6 +1,9 @@
 // refused.bin: records of operation, rd, rs1, rs2, constant (4 bytes each), one of them out of range.
 use crate::number::join;
 use crate::tally::Tally;
+use std::fs::File;
+use std::os::fd::AsRawFd;
+use std::rt::Files;
 
 fn holds(b: [u8; 20]) -> bool {
     let made = isa::encode(
@@ -32,13 +35,13 @@ fn every(fd: i32) -> Tally {
     t
 }
 
-pub fn test() {
-    let fd = os::open_read(b"refused.bin");
-    if fd < 0 {
-        os::fail(b"refused.bin");
-        return;
-    }
-    let t = every(fd);
-    libc::close(fd);
+pub fn test(rt: &(impl Files<File = File> + Eprint)) -> std::io::Result<()> {
+    let file = match File::open(rt, "refused.bin") {
+        Ok(file) => file,
+        Err(e) => return eprintln!(rt; "refused.bin: {e}"),
+    };
+    let t = every(file.as_raw_fd());
+    drop(file);
     t.print(b"refusals ");
+    Ok(())
 }

@@ -1,5 +1,7 @@
 // How a comparison stands.
-use libc::STDOUT_FILENO;
+
+// the descriptor of standard output
+const STDOUT_FILENO: i32 = 1;
 
 // first: the number of the first record that differs, counted from 0; more: the file may hold a further record
 #[derive(Clone, Copy)]

@@ -3,6 +3,9 @@ use crate::number::join;
 use crate::tally::Tally;
 use crate::{LAST_OPERATION, counts};
 use isa::{Instruction, Reading};
+use std::fs::File;
+use std::os::fd::AsRawFd;
+use std::rt::Files;
 
 // counts: how many words of each operation were tested, illegal ones at 0
 #[derive(Clone, Copy)]
@@ -106,16 +109,16 @@ fn every(fd: i32) -> Words {
     w
 }
 
-pub fn test() {
-    let fd = os::open_read(b"words.bin");
-    if fd < 0 {
-        os::fail(b"words.bin");
-        return;
-    }
-    let w = every(fd);
-    libc::close(fd);
+pub fn test(rt: &(impl Files<File = File> + Eprint)) -> std::io::Result<()> {
+    let file = match File::open(rt, "words.bin") {
+        Ok(file) => file,
+        Err(e) => return eprintln!(rt; "words.bin: {e}"),
+    };
+    let w = every(file.as_raw_fd());
+    drop(file);
     let counts = w.counts;
     let tally = w.tally;
     counts::print(counts);
     tally.print(b"words ");
+    Ok(())
 }

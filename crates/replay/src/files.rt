@@ -1,44 +1,59 @@
 // Files that may be missing.
 ghost use Rattle.io.specs.Counts.{IsPrefixLen};
 
-// in place of a descriptor: there is no such file
-const MISSING: i32 = -1;
+use std::fs::File;
+use std::io::{ErrorKind, Read};
+use std::os::fd::AsRawFd;
+use std::rt::Files;
 
-// in place of a descriptor: the file is there and may not be read
-pub const CLOSED: i32 = -2;
+// What stands under a name: no file, an open one, or one that may not be read.
+#[derive(Drop)]
+pub enum Found {
+    Missing,
+    Opened(File),
+    Closed,
+}
 
-// A descriptor, MISSING, or CLOSED after a line on standard error.
-pub fn open(name: &[u8]) -> i32 {
-    let fd = os::open_read(name);
-    if fd >= 0 {
-        return fd;
+impl Found {
+    pub fn is_closed(&self) -> bool {
+        matches!(self, Found::Closed)
     }
-    if os::errno() == libc::ENOENT {
-        return MISSING;
+}
+
+// Closed after a line on standard error.
+pub fn open(rt: &(impl Files<File = File> + Eprint), name: &str) -> std::io::Result<Found> {
+    match File::open(rt, name) {
+        Ok(file) => Ok(Found::Opened(file)),
+        Err(e) if e.kind() == ErrorKind::NotFound => Ok(Found::Missing),
+        Err(e) => {
+            eprintln!(rt; "{name}: {e}")?;
+            Ok(Found::Closed)
+        }
     }
-    os::fail(name);
-    CLOSED
 }
 
 // Fills the buffer from its start, and answers how many bytes there were; none in a missing file.
-pub fn read(fd: i32, buffer: &mut [u8]) -> usize
+pub fn read(found: &Found, buffer: &mut [u8]) -> usize
     ensures { IsPrefixLen result buffer.new }
 {
-    if fd < 0 {
-        return 0;
+    match found {
+        Found::Opened(file) => io::read_full(file.as_raw_fd(), buffer),
+        _ => 0,
     }
-    io::read_full(fd, buffer)
 }
 
 // Whether reading ended at an error and not at the file's end; then a line on standard error says so.
-pub fn failed(fd: i32, name: &[u8]) -> bool {
-    if fd < 0 {
-        return false;
-    }
+pub fn failed(rt: &impl Eprint, found: &Found, name: &str) -> std::io::Result<bool> {
+    let Found::Opened(file) = found else {
+        return Ok(false);
+    };
+    let mut file = file;
     let mut further = [0u8; 1];
-    if libc::read(fd, &mut further) < 0 {
-        os::fail(name);
-        return true;
+    match file.read(&mut further) {
+        Ok(_) => Ok(false),
+        Err(e) => {
+            eprintln!(rt; "{name}: {e}")?;
+            Ok(true)
+        }
     }
-    false
 }

@@ -1,5 +1,7 @@
 // Lines on standard output: a name and a number.
-use libc::STDOUT_FILENO;
+
+// the descriptor of standard output
+const STDOUT_FILENO: i32 = 1;
 
 fn end() {
     io::write_all(STDOUT_FILENO, b"\n");

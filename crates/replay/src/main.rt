@@ -6,6 +6,7 @@ mod files;
 mod lines;
 
 use bench::Replayed;
+use files::Found;
 use formats::schedule;
 use reference::lengths;
 
@@ -40,28 +41,34 @@ const DATA: usize = lengths::LONGEST_DATA + 1;
 
 const SCHEDULE: usize = schedule::LONGEST + 1;
 
-fn read_and_replay(code: i32, memory: i32, chain: i32) {
+fn read_and_replay(
+    rt: &impl Eprint,
+    code: &Found,
+    memory: &Found,
+    chain: &Found,
+) -> std::io::Result<()> {
     let mut program = [0u8; PROGRAM];
     let mut data = [0u8; DATA];
     let mut schedule = [0u8; SCHEDULE];
     let p = files::read(code, &mut program);
     let d = files::read(memory, &mut data);
     let s = files::read(chain, &mut schedule);
-    if files::failed(code, b"core.code")
-        | files::failed(memory, b"core.data")
-        | files::failed(chain, b"core.sched")
+    if files::failed(rt, code, "core.code")?
+        | files::failed(rt, memory, "core.data")?
+        | files::failed(rt, chain, "core.sched")?
     {
-        return;
+        return Ok(());
     }
     replay(&program[..p], &mut data[..d], &schedule[..s]);
+    Ok(())
 }
 
-fn main() {
-    let code = files::open(b"core.code");
-    let memory = files::open(b"core.data");
-    let chain = files::open(b"core.sched");
-    if code == files::CLOSED || memory == files::CLOSED || chain == files::CLOSED {
-        return;
+fn main(rt: HostRuntime) -> std::io::Result<()> {
+    let code = files::open(&rt, "core.code")?;
+    let memory = files::open(&rt, "core.data")?;
+    let chain = files::open(&rt, "core.sched")?;
+    if code.is_closed() || memory.is_closed() || chain.is_closed() {
+        return Ok(());
     }
-    read_and_replay(code, memory, chain);
+    read_and_replay(&rt, &code, &memory, &chain)
 }
