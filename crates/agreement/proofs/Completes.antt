@@ -7,7 +7,7 @@ use native.Mathlib.Omega.{arith}
 use lib.ListN.{length, get_or, set, take, length-set, length-map, get_or-map}
 use lib.Seq.{get_or-set_same, get_or-set_other}
 use Rattle.laws.proofs.Lists.{get_d_within}
-use Rattle.reference.specs.Step.{State, destination}
+use Rattle.reference.specs.Step.{State}
 use Rattle.execution.specs.declared.Outcome.{Outcome}
 use Rattle.tables.specs.Entry.{empty_entry, held, completed_entry, stopped_entry, waiting_entry}
 use Rattle.tables.specs.declared.State.TheVariants.{Issued, Completed}

@@ -12,7 +12,7 @@ use lib.ListN.{length, get_or, set, take}
 use lib.Seq.{get_or-set_other, get_or-set_same, set_out}
 use Rattle.laws.proofs.Bools.{impossible}
 use Rattle.isa.specs.Encodes.{accepted}
-use Rattle.isa.specs.Reads.{choose, none}
+use Rattle.isa.specs.Reads.{choose}
 use Rattle.isa.specs.declared.Instruction.{Instruction}
 use Rattle.isa.proofs.Accepted.{accepted_holds}
 use Rattle.execution.specs.Execute.{stop, executed}

@@ -9,7 +9,7 @@ use native.Mathlib.Decide.{dec_lt}
 use lib.ListN.{length, get_or, set, take, length-set}
 use lib.Seq.{get_or-set_other, get_or-set_same, set_out}
 use Rattle.execution.specs.Roles.{stores}
-use Rattle.reference.specs.Step.{State, state, first_source, second_source, destination, step_of}
+use Rattle.reference.specs.Step.{State, first_source, second_source, destination, step_of}
 use Rattle.tables.specs.Entry.{empty_entry}
 use Rattle.tables.specs.declared.Entry.{Entry}
 use Rattle.agreement.proofs.View.{name_in}

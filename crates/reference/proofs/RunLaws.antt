@@ -9,7 +9,7 @@ use borrow.Author.Tests.{eq-eqb, ne_eqb, eqb-true, eqb-false}
 use lib.Dec.{eqb}
 use Rattle.isa.specs.Reads.{choose}
 use Rattle.execution.specs.Execute.{stop}
-use Rattle.reference.specs.Step.{State, Step, state, step_of, length_refusal}
+use Rattle.reference.specs.Step.{State, Step, step_of, length_refusal}
 use Rattle.reference.specs.Run.{Run, ended, after, run_of, run_answer, ran_of}
 use Rattle.reference.specs.Statement.{continued}
 use Rattle.execution.specs.declared.Stop.{Stop}

@@ -13,7 +13,7 @@ use Rattle.isa.specs.declared.Instruction.{Instruction}
 use Rattle.execution.specs.Memory.{second_value, stored}
 use Rattle.execution.specs.Execute.{stop, executed}
 use Rattle.reference.specs.Fetch.{FetchNumbers, fetch_numbers, fetch_at}
-use Rattle.reference.specs.Step.{State, Step, state, reached, first_source, second_source, destination, read_register, write_register, stopped_at, settled, first_of, second_of, step_with, step_fetched, step_of, length_refusal, step_answer, stepped_of}
+use Rattle.reference.specs.Step.{State, Step, reached, first_source, second_source, destination, read_register, write_register, stopped_at, settled, first_of, second_of, step_with, step_fetched, step_of, length_refusal, step_answer, stepped_of}
 use Rattle.execution.specs.declared.Stop.{Stop}
 use Rattle.execution.specs.declared.Outcome.{Outcome}
 use Rattle.reference.specs.declared.Fetching.TheVariants.{Found, Stopped}

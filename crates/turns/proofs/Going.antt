@@ -27,7 +27,7 @@ use Rattle.agreement.proofs.Kept.{Kept}
 use Rattle.agreement.proofs.Safe.{Reached, make_reached}
 use Rattle.agreement.proofs.Reaching.{started_reached, reached_range, reached_lent}
 use Rattle.events.specs.declared.Counts.{Counts}
-use Rattle.events.specs.Counts.{call_by, commits, accepting, refusing, Played, played, played_all, no_counts}
+use Rattle.events.specs.Counts.{call_by, accepting, refusing, Played, played, played_all, no_counts}
 use Rattle.events.specs.Numbers.{Small}
 use Rattle.events.specs.Play.{setup_in, Ready, played_of}
 use Rattle.events.proofs.Laws.{one_most}

@@ -5,7 +5,6 @@ use mir.Syntax.{w32}
 use mir.ValLaws.{to_z-of_z}
 use mathlib.Core.Path.{ap, ◌∙◌}
 use Rattle.cirnhogul.specs.Exported.{packed}
-use borrow.Author.Rules.{rules}
 use Rattle.cirnhogul.proofs.cirnhogul_encode.Goals as goal
 
 pub returns : goal.returns

@@ -1,6 +1,5 @@
 use mathlib.Core.Path.{ap}
 use Rattle.cirnhogul.specs.Exported.{numbered}
-use borrow.Author.Rules.{rules}
 use Rattle.cirnhogul.proofs.cirnhogul_replay.Goals as goal
 
 pub returns : goal.returns

@@ -1,9 +1,8 @@
 use mathlib.Core.Path.{sym, ap, ◌∙◌}
 use mathlib.Core.Bool.{not}
 use native.Mathlib.Omega.{arith}
-use borrow.Author.Tests.{eq-eqb, ne_eqb, le-leb, lt-leb, not-true, not-false}
+use borrow.Author.Tests.{eq-eqb, ne_eqb, le-leb, lt-leb}
 use Rattle.committing.proofs.CommitLaws.{refused_halted, refused_place, refused_state, not_refused}
-use borrow.Author.Rules.{rules}
 use Rattle.committing.proofs.commit_refusal.Goals as goal
 
 pub returns-then-halt-ne0 : goal.returns-then-halt-ne0

@@ -3,7 +3,6 @@ use Rattle.committing.specs.Commit.{commit_refusal, commit_within}
 use Rattle.renaming.proofs.RangeLaws.{in_range_count}
 use Rattle.renaming.proofs.OperationLaws.{in_range_operation}
 use Rattle.committing.proofs.CommitLaws.{has_entry, commit_refused, commit_halts, commit_retires}
-use borrow.Author.Rules.{rules}
 use Rattle.committing.proofs.commit_within.Goals as goal
 
 pub returns-then-number-ne0 : goal.returns-then-number-ne0

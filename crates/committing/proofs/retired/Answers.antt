@@ -2,7 +2,6 @@ use mathlib.Core.Path.{ap}
 use native.Mathlib.Omega.{arith}
 use Rattle.renaming.specs.declared.Core.{Core}
 use Rattle.committing.proofs.CommitLaws.{retired_is}
-use borrow.Author.Rules.{rules}
 use Rattle.committing.proofs.retired.Goals as goal
 
 pub overflow_sub-left : goal.overflow_sub-left

@@ -1,6 +1,5 @@
 use Rattle.renaming.specs.Drop.{drop_to}
 use Rattle.committing.proofs.CommitLaws.{halted_is}
-use borrow.Author.Rules.{rules}
 use Rattle.committing.proofs.stopped.Goals as goal
 
 pub returns : goal.returns

@@ -2,14 +2,13 @@ use mathlib.Core.Path.{sym, ap, ◌∙◌}
 use mathlib.Core.Bool.{true, false, not, ◌||◌}
 use native.Mathlib.Omega.{arith}
 use lib.Dec.{eqb}
-use borrow.Author.Tests.{eq-eqb, ne_eqb, le-leb, lt-leb, not-true, not-false}
+use borrow.Author.Tests.{eq-eqb, ne_eqb, le-leb, lt-leb}
 use Rattle.execution.specs.declared.Outcome.{Outcome}
 use Rattle.renaming.specs.Changes.{entry_at}
 use Rattle.completing.specs.Complete.{outcome_at}
 use Rattle.stealing.specs.Steal.{victim_of}
 use Rattle.renaming.proofs.RangeLaws.{in_range_count}
 use Rattle.completing.proofs.CompleteLaws.{refused_halted, refused_place, refused_state, refused_register, has_victim, supplied, supply}
-use borrow.Author.Rules.{rules}
 use Rattle.completing.proofs.complete_refusal.Goals as goal
 
 pub returns-then-halt-ne0 : goal.returns-then-halt-ne0

@@ -3,7 +3,6 @@ use Rattle.renaming.specs.declared.Core.{Core}
 use Rattle.completing.specs.Complete.{complete_refusal, completed, complete_within}
 use Rattle.renaming.proofs.RefusalLaws.{answered_refused, answered_next}
 use Rattle.completing.proofs.CompleteLaws.{has_entry}
-use borrow.Author.Rules.{rules}
 use Rattle.completing.proofs.complete_within.Goals as goal
 
 pub returns-then-number-ne0 : goal.returns-then-number-ne0

@@ -4,10 +4,9 @@ use Rattle.execution.specs.declared.Outcome.{Outcome}
 use Rattle.tables.specs.declared.Entry.{Entry}
 use Rattle.renaming.specs.declared.Core.{Core}
 use Rattle.renaming.specs.Changes.{place}
-use Rattle.completing.specs.Complete.{registered, redirected, finished}
+use Rattle.completing.specs.Complete.{redirected, finished}
 use Rattle.renaming.proofs.RangeLaws.{in_range_count}
 use Rattle.completing.proofs.CompleteLaws.{registered_count, finish_stops, finish_goes}
-use borrow.Author.Rules.{rules}
 use Rattle.completing.proofs.completed.Goals as goal
 
 pub bounds-core-position : goal.bounds-core-position

@@ -1,7 +1,6 @@
 use native.Mathlib.Omega.{arith}
 use Rattle.renaming.proofs.RangeLaws.{in_range_count}
 use Rattle.renaming.proofs.OperationLaws.{in_range_operation}
-use borrow.Author.Rules.{rules}
 use Rattle.completing.proofs.outcome_at.Goals as goal
 
 pub bounds-core-position : goal.bounds-core-position

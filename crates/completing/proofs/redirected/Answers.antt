@@ -3,7 +3,6 @@ use native.Mathlib.Numerals.{add-one}
 use Prim.Native.Nat.{ℕ, suc}
 use Rattle.renaming.specs.Drop.{drop_to}
 use Rattle.completing.proofs.CompleteLaws.{rightly_predicted, wrongly_predicted, refetched_is}
-use borrow.Author.Rules.{rules}
 use Rattle.completing.proofs.redirected.Goals as goal
 
 pub returns-then-next-e : goal.returns-then-next-e

@@ -9,7 +9,6 @@ use Rattle.completing.specs.Complete.{learned}
 use Rattle.stealing.specs.Steal.{victim_of, robbed}
 use Rattle.completing.proofs.CompleteLaws.{without_register, free_register_lem, stolen_register}
 use Rattle.stealing.proofs.StealLaws.{victim_within, robbed_count}
-use borrow.Author.Rules.{rules}
 use Rattle.completing.proofs.registered.Goals as goal
 
 -- the victim is an entry

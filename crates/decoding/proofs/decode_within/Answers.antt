@@ -5,7 +5,6 @@ use Rattle.renaming.specs.declared.Core.{Core}
 use Rattle.decoding.specs.Decode.{decode_refusal, enter, decoded, decode_within}
 use Rattle.renaming.proofs.RefusalLaws.{answered_refused, answered_next}
 use Rattle.decoding.proofs.DecodeLaws.{refusal_is, has_place}
-use borrow.Author.Rules.{rules}
 use Rattle.decoding.proofs.decode_within.Goals as goal
 
 pub returns-then-number-ne0 : goal.returns-then-number-ne0

@@ -1,4 +1,3 @@
-use borrow.Author.Rules.{rules}
 use Rattle.decoding.proofs.ended.Goals as goal
 
 pub returns : goal.returns

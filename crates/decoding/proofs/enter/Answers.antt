@@ -3,7 +3,6 @@ use native.Mathlib.Omega.{arith}
 use native.Mathlib.Numerals.{add-one}
 use Rattle.renaming.specs.declared.Core.{Core}
 use Rattle.decoding.proofs.DecodeLaws.{entered}
-use borrow.Author.Rules.{rules}
 use Rattle.decoding.proofs.enter.Goals as goal
 
 pub bounds-entered-at : goal.bounds-entered-at

@@ -3,7 +3,6 @@ use mathlib.Core.Path.{◌≡◌, sym, ap, ◌∙◌}
 use mathlib.Core.Bool.{true}
 use mathlib.Core.List.{List}
 use native.Mathlib.Omega.{arith}
-use borrow.Author.Tests.{not-true, not-false}
 use Rattle.isa.specs.Reads.{none, illegal, numbers_of, read_of}
 use Rattle.execution.specs.declared.Stop.{Stop}
 use Rattle.reference.specs.Fetch.{of_reading, has_word, word_at, outside, fetch_at}
@@ -12,7 +11,6 @@ use Rattle.renaming.specs.declared.Core.{Core}
 use Rattle.decoding.specs.Decode.{ended_entry}
 use Rattle.decoding.specs.Seen.{seen}
 use Rattle.decoding.proofs.DecodeLaws.{entry_none, entry_at_once, entry_waits}
-use borrow.Author.Rules.{rules}
 use Rattle.decoding.proofs.entry_for.Goals.{After-read, Start}
 use Rattle.decoding.proofs.entry_for.Goals as goal
 

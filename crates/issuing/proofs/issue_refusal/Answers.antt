@@ -1,11 +1,10 @@
 use mathlib.Core.Path.{sym, ap, ◌∙◌}
 use mathlib.Core.Bool.{not}
 use native.Mathlib.Omega.{arith}
-use borrow.Author.Tests.{eq-eqb, ne_eqb, le-leb, lt-leb, not-true, not-false}
+use borrow.Author.Tests.{eq-eqb, ne_eqb, le-leb, lt-leb}
 use Rattle.renaming.proofs.RangeLaws.{in_range_count}
 use Rattle.renaming.proofs.OperationLaws.{in_range_operation}
 use Rattle.issuing.proofs.IssueLaws.{refused_halted, refused_place, refused_state, refused_operand, refused_store, no_load, no_store}
-use borrow.Author.Rules.{rules}
 use Rattle.issuing.proofs.issue_refusal.Goals as goal
 
 pub returns-then-halt-ne0 : goal.returns-then-halt-ne0

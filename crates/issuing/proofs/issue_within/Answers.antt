@@ -3,7 +3,6 @@ use Rattle.renaming.specs.declared.Core.{Core}
 use Rattle.issuing.specs.Issue.{issue_refusal, issued, issue_within}
 use Rattle.renaming.proofs.RefusalLaws.{answered_refused, answered_next}
 use Rattle.issuing.proofs.IssueLaws.{has_entry}
-use borrow.Author.Rules.{rules}
 use Rattle.issuing.proofs.issue_within.Goals as goal
 
 pub returns-then-number-ne0 : goal.returns-then-number-ne0

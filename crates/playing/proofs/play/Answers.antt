@@ -1,12 +1,12 @@
-use Prim.Native.Nat.{suc, ℕ, ◌*◌, ◌+◌, ◌-◌, ◌<◌, ◌≤◌}
+use Prim.Native.Nat.{suc, ℕ, ◌-◌, ◌<◌, ◌≤◌}
 use mathlib.Core.Path.{ap, refl, subst, sym, ◌∙◌, ◌≡◌}
 use lib.ListN.{get_or, length}
 use Rattle.execution.specs.declared.Outcome.{Outcome}
-use Rattle.tables.specs.Entry.{empty_entry, sleep_entry, wake_entry}
+use Rattle.tables.specs.Entry.{empty_entry}
 use Rattle.tables.specs.declared.Entry.{Entry}
 use Rattle.formats.specs.declared.Record.{Record}
 use Rattle.formats.proofs.HeadLaws.{at_least, at_most}
-use Rattle.renaming.specs.Changes.{change_first, entry_at, shows}
+use Rattle.renaming.specs.Changes.{entry_at, shows}
 use Rattle.renaming.specs.declared.Core.{Core}
 use Rattle.renaming.proofs.DropLaws.{Long, dropped}
 use Rattle.issuing.specs.Issue.{store_below}
@@ -19,10 +19,9 @@ use Rattle.turns.specs.declared.Way.{Way}
 use Rattle.turns.specs.declared.Way.TheVariants.{Commit, Complete, Decode, Halt, Issue, Load, Refused}
 use Rattle.turns.specs.declared.Ending.{Ending}
 use Rattle.turns.proofs.Going.{Going, begins, chain_ends, ends, goes_on, in_range, inside, kept, roomy, small_enough}
-use Rattle.turns.proofs.Turning.{Turning, calm, drops_on, long, long_values, machine_of, settled}
+use Rattle.turns.proofs.Turning.{calm, drops_on, long, long_values, machine_of, settled}
 use Rattle.turns.proofs.WayLaws.{Commits, Completes, Decodes, EndingSays, Issues, Loads, Says, ending_says, way_says}
 use Rattle.turns.proofs.EventWays.{barred_way, commit_way_lem, decode_way_lem, halt_way, issue_way_lem, no_destination_way, reaching, refused_way, retired_here, stop_way, supply_way, theft_way, unsupplied_way}
-use mathlib.Core.Logic.{⊎_elim}
 use native.Mathlib.Omega.{arith}
 use borrow.Author.Rules.{rules}
 use Rattle.renaming.proofs.OperationLaws.{in_range_operation}
@@ -57,9 +56,9 @@ module _ (p : At-turns) where
 -- No drop is under way.
 turn_going : (p : Else-kept-count)
     → Going p.args.program.now p.args.«data».now p.args.schedule.now p.turns.left p.turns.index
-      (machine_of p.args.core.setup p.turns.entries p.turns.mapname p.turns.mapregister p.turns.mapvalid p.turns.physical p.turns.values p.turns.registerlink p.turns.namelink p.turns.registerhead p.turns.namehead
-      p.turns.count p.turns.fetch p.turns.next p.turns.halt)
-      p.turns.«data» p.turns.counts
+    (machine_of p.args.core.setup p.turns.entries p.turns.mapname p.turns.mapregister p.turns.mapvalid p.turns.physical p.turns.values p.turns.registerlink p.turns.namelink p.turns.registerhead p.turns.namehead
+    p.turns.count p.turns.fetch p.turns.next p.turns.halt)
+    p.turns.«data» p.turns.counts
 turn_going p = calm p.turns.invariant.1 p.if-kept-count.false
 
 -- The way is chosen.
@@ -178,9 +177,9 @@ module _ (p : Joined-k-at) where
   found =
       let l = p.search in
       elim p.if-k-at.branch [
-        then-k-at w ↦ w.victim-is ∙ sym (none_at searched.physical searched.entries p.place-at.result l.k w.if-k-at.true) ∙ l.invariant.2
+        | then-k-at w ↦ w.victim-is ∙ sym (none_at searched.physical searched.entries p.place-at.result l.k w.if-k-at.true) ∙ l.invariant.2
         | else-k-at+then-held-ne0 w ↦
-        w.victim-is ∙ sym (found_at searched.physical searched.entries p.place-at.result l.k w.if-k-at.false (λ z. w.if-held-ne0.true (w.held.ensures ∙ z))) ∙ l.invariant.2
+            w.victim-is ∙ sym (found_at searched.physical searched.entries p.place-at.result l.k w.if-k-at.false (λ z. w.if-held-ne0.true (w.held.ensures ∙ z))) ∙ l.invariant.2
       ]
 
   victim_there : p.place-at.result < p.turns.count → p.if-k-at.victim < p.turns.count
@@ -222,7 +221,7 @@ overflow_cast-occupied c =
 pub returns : goal.returns
 returns c =
     elim c.if-left-eq0.branch [
-      then-left-eq0 w ↦ ends (turn_going (goal.at.returns c).Else-kept-count) w.if-left-eq0.true
+      | then-left-eq0 w ↦ ends (turn_going (goal.at.returns c).Else-kept-count) w.if-left-eq0.true
       | else-left-eq0+then-index-eq0 w ↦ chain_ends (turn_going (goal.at.returns c).Else-kept-count) w.if-index-eq0.true
     ]
 
@@ -538,9 +537,9 @@ wake-preserved c =
     let x : Entry = get_or l.entries l.k empty_entry in (
       omega arith,
       elim c.if-is_on.branch [
-        then-is_on w ↦ w.entries-is ∙ change_step _ l.k _ _ _ l.invariant.1 w.wake-woken.ensures
+        | then-is_on w ↦ w.entries-is ∙ change_step _ l.k _ _ _ l.invariant.1 w.wake-woken.ensures
         | else-is_on w ↦
-        w.entries-is ∙ change_skip _ l.k _ _ l.invariant.1 (wake_off (entry (goal.at.wake-preserved c).After-way_of-way).name c.turns.registerhead x (sym c.is_on.ensures ∙ w.if-is_on.false))
+            w.entries-is ∙ change_skip _ l.k _ _ l.invariant.1 (wake_off (entry (goal.at.wake-preserved c).After-way_of-way).name c.turns.registerhead x (sym c.is_on.ensures ∙ w.if-is_on.false))
       ],
     )
 
@@ -865,8 +864,7 @@ turns-smaller c =
     let t = some_left (goal.at.turns-smaller c).After-way_of-way in omega arith
 
 pub turns-preserved : goal.turns-preserved
-turns-preserved c =
-    (
-      data_kept (goal.at.turns-preserved c).After-way_of-way,
-      settled (undropped (goal.at.turns-preserved c).After-way_of-way) (goes (goal.at.turns-preserved c).After-way_of-way _ (refused_way (going (goal.at.turns-preserved c).After-way_of-way) _ _ (told (goal.at.turns-preserved c).After-way_of-way Refused c.in-Refused.is).some c.refused-refused.ensures)),
-    )
+turns-preserved c = (
+  data_kept (goal.at.turns-preserved c).After-way_of-way,
+  settled (undropped (goal.at.turns-preserved c).After-way_of-way) (goes (goal.at.turns-preserved c).After-way_of-way _ (refused_way (going (goal.at.turns-preserved c).After-way_of-way) _ _ (told (goal.at.turns-preserved c).After-way_of-way Refused c.in-Refused.is).some c.refused-refused.ensures)),
+)

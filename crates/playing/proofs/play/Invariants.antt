@@ -1,42 +1,13 @@
-use Prim.Native.Nat.{suc, ℕ, ◌*◌, ◌+◌, ◌-◌, ◌<◌, ◌≤◌}
-use mathlib.Core.Path.{ap, refl, subst, sym, ◌∙◌, ◌≡◌}
-use lib.ListN.{get_or, length}
-use Rattle.execution.specs.declared.Outcome.{Outcome}
-use Rattle.tables.specs.Entry.{empty_entry, sleep_entry, wake_entry}
+use Prim.Native.Nat.{suc, ◌*◌, ◌+◌, ◌-◌, ◌<◌, ◌≤◌}
+use mathlib.Core.Path.{◌≡◌}
+use lib.ListN.{length}
+use Rattle.tables.specs.Entry.{sleep_entry, wake_entry}
 use Rattle.tables.specs.declared.Entry.{Entry}
-use Rattle.formats.specs.declared.Record.{Record}
-use Rattle.formats.proofs.HeadLaws.{at_least, at_most}
-use Rattle.renaming.specs.Changes.{change_first, entry_at, shows}
-use Rattle.renaming.specs.declared.Core.{Core}
-use Rattle.renaming.proofs.DropLaws.{Long, dropped}
+use Rattle.renaming.specs.Changes.{change_first}
 use Rattle.issuing.specs.Issue.{store_below}
-use Rattle.completing.specs.Complete.{outcome_at}
-use Rattle.stealing.specs.Steal.{victim_among, victim_of}
-use Rattle.committing.proofs.CommitLaws.{shift_step, shifted, shifted_none}
-use Rattle.events.specs.Counts.{Played, played}
-use Rattle.events.specs.Numbers.{Small}
-use Rattle.turns.specs.declared.Way.{Way}
-use Rattle.turns.specs.declared.Way.TheVariants.{Commit, Complete, Decode, Halt, Issue, Load, Refused}
-use Rattle.turns.specs.declared.Ending.{Ending}
-use Rattle.turns.proofs.Going.{Going, begins, chain_ends, ends, goes_on, in_range, inside, kept, roomy, small_enough}
-use Rattle.turns.proofs.Turning.{Turning, calm, drops_on, long, long_values, machine_of, settled}
-use Rattle.turns.proofs.WayLaws.{Commits, Completes, Decodes, EndingSays, Issues, Loads, Says, ending_says, way_says}
-use Rattle.turns.proofs.EventWays.{barred_way, commit_way_lem, decode_way_lem, halt_way, issue_way_lem, no_destination_way, reaching, refused_way, retired_here, stop_way, supply_way, theft_way, unsupplied_way}
-use mathlib.Core.Logic.{⊎_elim}
-use native.Mathlib.Omega.{arith}
-use borrow.Author.Rules.{rules}
-use Rattle.renaming.proofs.OperationLaws.{in_range_operation}
-use mathlib.Core.Bool.{Bool, false, ◌||◌}
-use borrow.Author.Tests.{eqb-false}
-use Rattle.execution.specs.Roles.{stores}
-use Rattle.issuing.proofs.IssueLaws.{below_more, below_none}
-use Rattle.window.specs.declared.Call.TheVariants.{Issue as issue}
-use Rattle.turns.specs.declared.Ending.TheVariants.{Steals, Stops, Supplied, WithoutDestination}
-use Rattle.renaming.proofs.ChangeLaws.{change_none, change_step}
-use Rattle.turns.proofs.EntryLaws.{change_end, change_skip, wake_off}
-use Rattle.tables.proofs.TableLaws.{store_length}
-use Rattle.stealing.proofs.StealLaws.{found_at, none_at, passed_at, victim_within}
-use Rattle.turns.proofs.TheftLaws.{learnt_length}
+use Rattle.stealing.specs.Steal.{victim_among}
+use Rattle.committing.proofs.CommitLaws.{shifted}
+use Rattle.turns.proofs.Turning.{Turning, machine_of}
 use Rattle.playing.proofs.play.Given as goal
 
 -- the loops over the entries, and the search: only what a loop changes is said

@@ -1,13 +1,8 @@
-use borrow.Author.Rules.{rules}
-use Prim.Native.Nat.{ℕ, ◌-◌, ◌≤◌}
-use mathlib.Core.Path.{◌≡◌, ap, ◌∙◌}
-use mathlib.Core.List.{List}
-use native.Mathlib.Omega.{arith}
+use Prim.Native.Nat.{◌-◌, ◌≤◌}
+use mathlib.Core.Path.{◌≡◌}
 use Rattle.tables.specs.Entry.{sleep_entry}
-use Rattle.tables.specs.declared.Entry.{Entry}
 use Rattle.renaming.specs.Setters.{with_entries}
 use Rattle.renaming.specs.Changes.{change_first}
-use Rattle.renaming.proofs.ChangeLaws.{change_none, change_turn}
 use Rattle.stealing.proofs.sleep_all.Given as goal
 
 abbrev pub invariant-loop-k : goal.invariant-loop-k

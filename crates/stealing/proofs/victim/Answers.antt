@@ -1,8 +1,7 @@
-use borrow.Author.Rules.{rules}
-use Prim.Native.Nat.{ℕ, suc, ◌-◌, ◌≤◌, ◌<◌}
+use Prim.Native.Nat.{ℕ, suc, ◌-◌}
 use mathlib.Core.Path.{◌≡◌, sym, ap, ◌∙◌}
 use native.Mathlib.Omega.{arith}
-use Rattle.stealing.specs.Steal.{victim_among, victim_of}
+use Rattle.stealing.specs.Steal.{victim_among}
 use Rattle.stealing.proofs.StealLaws.{found_at, passed_at, none_at}
 use Rattle.stealing.proofs.victim.Goals as goal
 

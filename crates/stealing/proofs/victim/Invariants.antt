@@ -1,9 +1,6 @@
-use borrow.Author.Rules.{rules}
-use Prim.Native.Nat.{ℕ, suc, ◌-◌, ◌≤◌, ◌<◌}
-use mathlib.Core.Path.{◌≡◌, sym, ap, ◌∙◌}
-use native.Mathlib.Omega.{arith}
+use Prim.Native.Nat.{◌-◌, ◌≤◌, ◌<◌}
+use mathlib.Core.Path.{◌≡◌}
 use Rattle.stealing.specs.Steal.{victim_among, victim_of}
-use Rattle.stealing.proofs.StealLaws.{found_at, passed_at, none_at}
 use Rattle.stealing.proofs.victim.Given as goal
 
 abbrev pub invariant-loop-k : goal.invariant-loop-k

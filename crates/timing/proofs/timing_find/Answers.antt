@@ -1,9 +1,6 @@
-use Prim.Native.Nat.{ℕ, ◌+◌, ◌*◌, ◌-◌, ◌≤◌}
+use Prim.Native.Nat.{ℕ, ◌*◌}
 use mathlib.Core.Path.{◌≡◌, ap, ◌∙◌}
 use native.Mathlib.Omega.{arith}
-use borrow.Author.Rules.{rules}
-use lib.ListN.{length, drop}
-use Rattle.isa.specs.Listing.{last}
 use Rattle.timing.specs.Timing.{operations}
 use Rattle.timing.proofs.Sums.{next, round_over, found, too_many}
 use Rattle.timing.proofs.timing_find.Goals as goal

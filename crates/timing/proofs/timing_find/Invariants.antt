@@ -1,11 +1,8 @@
 use Prim.Native.Nat.{ℕ, ◌+◌, ◌*◌, ◌-◌, ◌≤◌}
-use mathlib.Core.Path.{◌≡◌, ap, ◌∙◌}
-use native.Mathlib.Omega.{arith}
-use borrow.Author.Rules.{rules}
+use mathlib.Core.Path.{◌≡◌}
 use lib.ListN.{length, drop}
 use Rattle.isa.specs.Listing.{last}
 use Rattle.timing.specs.Timing.{operations}
-use Rattle.timing.proofs.Sums.{next, round_over, found, too_many}
 use Rattle.timing.proofs.timing_find.Given as goal
 
 -- the most that a round adds: the last operation for each of 4,096 words

@@ -1,14 +1,8 @@
-use Prim.Native.Nat.{ℕ, ◌+◌, ◌*◌, ◌-◌, ◌≤◌}
-use mathlib.Core.Path.{◌≡◌, refl, sym, ap, ◌∙◌}
-use native.Mathlib.Nat.{sub-zero}
-use native.Mathlib.Omega.{arith}
-use borrow.Author.Rules.{rules}
+use Prim.Native.Nat.{◌*◌, ◌-◌, ◌≤◌}
+use mathlib.Core.Path.{◌≡◌}
 use lib.ListN.{length}
 use Rattle.reference.specs.Step.{state}
-use Rattle.reference.specs.Run.{Run, after, run_of}
-use Rattle.reference.proofs.RunLaws.{after_zero}
-use Rattle.timing.specs.Timing.{answer, start}
-use Rattle.timing.proofs.Calls.{call_goes_on, call_stops, over, same_refusal, timed_refused, timed_accepted}
+use Rattle.reference.specs.Run.{after, run_of}
 use Rattle.timing.proofs.timing_run.Given as goal
 
 abbrev pub invariant-loop-made : goal.invariant-loop-made

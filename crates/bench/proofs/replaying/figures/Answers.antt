@@ -2,7 +2,6 @@ use Rattle.events.specs.Play.{played_of}
 use Rattle.formats.specs.Result.{result_length}
 use Rattle.bench.proofs.RefusalLaws.{unrefused, head_long}
 use Rattle.bench.proofs.FigureLaws.{ready, counts_few, figures_are}
-use borrow.Author.Rules.{rules}
 use Rattle.bench.proofs.replaying.figures.Goals as goal
 
 pub window_in-window-requires : goal.window_in-window-requires

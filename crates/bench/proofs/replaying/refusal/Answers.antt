@@ -1,6 +1,5 @@
 use mathlib.Core.Path.{sym, ◌∙◌}
 use Rattle.bench.proofs.RefusalLaws.{head_fits, head_long, lengths_stop, size_stop, head_stop, set_stop, chain_last}
-use borrow.Author.Rules.{rules}
 use Rattle.bench.proofs.replaying.refusal.Goals as goal
 
 pub returns-then-lengths-ne0 : goal.returns-then-lengths-ne0

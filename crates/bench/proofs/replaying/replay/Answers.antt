@@ -4,7 +4,6 @@ use lib.ListN.{length}
 use Rattle.bench.specs.Replay.{replay_refusal}
 use Rattle.bench.proofs.RefusalLaws.{size_right}
 use Rattle.bench.proofs.FigureLaws.{replay_refused, replay_made}
-use borrow.Author.Rules.{rules}
 use Rattle.bench.proofs.replaying.replay.Goals as goal
 
 pub returns-then-number-ne0 : goal.returns-then-number-ne0

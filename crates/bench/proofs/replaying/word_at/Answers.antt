@@ -1,5 +1,4 @@
 use Rattle.bench.proofs.WordLaws.{word_leading, word_register}
-use borrow.Author.Rules.{rules}
 use Rattle.bench.proofs.replaying.word_at.Goals as goal
 
 pub returns-then-k-lt8 : goal.returns-then-k-lt8

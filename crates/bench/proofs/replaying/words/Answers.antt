@@ -1,11 +1,10 @@
-use Prim.Native.Nat.{ℕ, ◌-◌, ◌≤◌, ◌<◌}
+use Prim.Native.Nat.{ℕ}
 use mathlib.Core.Path.{◌≡◌, refl, sym, ◌∙◌}
 use native.Mathlib.Omega.{arith}
 use borrow.Author.Rules.{rules}
 use lib.ListN.{length, get_or, length-set}
 use lib.Seq.{ext_get_or}
 use Rattle.renaming.proofs.TabulateLaws.{filled_more}
-use Rattle.formats.specs.Result.{result_words}
 use Rattle.bench.specs.Replay.{words_of}
 use Rattle.bench.proofs.WordLaws.{words_long}
 use Rattle.bench.proofs.replaying.words.Goals.{Start}

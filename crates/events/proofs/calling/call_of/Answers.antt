@@ -1,5 +1,4 @@
 use mathlib.Core.Path.{sym}
-use borrow.Author.Rules.{rules}
 use Rattle.events.proofs.EventLaws.{by_decode, by_issue, by_complete, by_commit}
 use Rattle.events.proofs.calling.call_of.Goals as goal
 

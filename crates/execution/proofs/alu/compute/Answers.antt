@@ -1,5 +1,4 @@
 use Rattle.execution.proofs.ActionLaws.{last_alu}
-use borrow.Author.Rules.{rules}
 use Rattle.execution.proofs.alu.compute.Goals as goal
 
 pub returns-in-0 : goal.returns-in-0

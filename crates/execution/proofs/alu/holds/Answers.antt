@@ -1,5 +1,4 @@
 use Rattle.execution.proofs.ActionLaws.{last_condition}
-use borrow.Author.Rules.{rules}
 use Rattle.execution.proofs.alu.holds.Goals as goal
 
 pub returns-in-0 : goal.returns-in-0

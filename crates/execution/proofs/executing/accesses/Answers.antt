@@ -1,5 +1,4 @@
 use mathlib.Core.Path.{sym, ◌∙◌}
-use borrow.Author.Rules.{rules}
 use Rattle.execution.proofs.executing.accesses.Goals as goal
 
 pub returns-then-accessible : goal.returns-then-accessible

@@ -1,5 +1,4 @@
 use borrow.Author.Tests.{eq-eqb, ne_eqb}
-use borrow.Author.Rules.{rules}
 use Rattle.execution.proofs.executing.jumps.Goals as goal
 
 pub returns-then-target-eq0 : goal.returns-then-target-eq0

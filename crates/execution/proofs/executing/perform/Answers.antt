@@ -1,7 +1,6 @@
 use Rattle.execution.specs.Execute.{executed_by}
 use Rattle.execution.proofs.ActionLaws.{no_class}
 use native.Mathlib.Omega.{arith}
-use borrow.Author.Rules.{rules}
 use Rattle.execution.proofs.executing.perform.Goals as goal
 
 pub accesses-requires : goal.accesses-requires

@@ -1,7 +1,6 @@
 use Prim.Native.Nat.{ℕ, ◌-◌, ◌*◌, ◌^◌, ◌<◌}
 use mathlib.Core.Path.{sym, ap, subst, ◌∙◌}
 use native.Mathlib.Omega.{arith}
-use borrow.Author.Tests.{not-true, not-false}
 use lib.Pow.{pow_mono}
 use mir.Syntax.{w32}
 use mir.Val.{of_z}
@@ -11,7 +10,6 @@ use Rattle.word.proofs.BytesLaws.{bytes_half}
 use Rattle.word.specs.Signed.{extend}
 use Rattle.execution.specs.Memory.{second_by}
 use Rattle.execution.proofs.MemoryLaws.{access_room}
-use borrow.Author.Rules.{rules}
 use Rattle.execution.proofs.memory.load_signed.Goals as goal
 
 pub returns-then-not-accessible : goal.returns-then-not-accessible

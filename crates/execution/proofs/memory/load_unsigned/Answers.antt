@@ -1,8 +1,6 @@
 use mathlib.Core.Path.{sym, ◌∙◌}
-use borrow.Author.Tests.{not-true, not-false}
 use Rattle.execution.specs.Memory.{second_by}
 use Rattle.execution.proofs.MemoryLaws.{access_room}
-use borrow.Author.Rules.{rules}
 use Rattle.execution.proofs.memory.load_unsigned.Goals as goal
 
 pub returns-then-not-accessible : goal.returns-then-not-accessible

@@ -5,7 +5,6 @@ use Rattle.word.specs.Bytes.{byte_of}
 use Rattle.execution.specs.Actions.{Action, action_of}
 use Rattle.execution.specs.Memory.{second_by}
 use Rattle.execution.proofs.ActionLaws.{action_of_lem, sized_read}
-use borrow.Author.Rules.{rules}
 use Rattle.execution.proofs.memory.second_value.Goals as goal
 
 pub second_by-requires : goal.second_by-requires

@@ -3,7 +3,6 @@ use mathlib.Core.Path.{ap, ◌∙◌}
 use Rattle.execution.specs.Actions.{Action, action_of}
 use Rattle.execution.specs.Memory.{stored_by}
 use Rattle.execution.proofs.ActionLaws.{action_of_lem, sized_read}
-use borrow.Author.Rules.{rules}
 use Rattle.execution.proofs.memory.store.Goals as goal
 
 pub store_by-requires : goal.store_by-requires

@@ -6,7 +6,6 @@ use Rattle.execution.specs.Codes.{action_at}
 use Rattle.execution.specs.Memory.{stored_by}
 use Rattle.execution.proofs.ActionLaws.{of_class}
 use Rattle.execution.proofs.MemoryLaws.{stored_done, stored_not, stored_other}
-use borrow.Author.Rules.{rules}
 use Rattle.execution.proofs.memory.store_by.Goals as goal
 
 pub store-requires : goal.store-requires

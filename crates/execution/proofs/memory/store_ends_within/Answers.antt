@@ -4,7 +4,6 @@ use lib.Dec.{leb}
 use Rattle.execution.specs.Actions.{action_of}
 use Rattle.execution.proofs.ActionLaws.{class_at, stores}
 use Rattle.execution.proofs.MemoryLaws.{ends_other, ends_store}
-use borrow.Author.Rules.{rules}
 use Rattle.execution.proofs.memory.store_ends_within.Goals as goal
 
 pub returns-then-class-eq-STORE : goal.returns-then-class-eq-STORE

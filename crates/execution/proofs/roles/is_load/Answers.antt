@@ -5,7 +5,6 @@ use lib.Dec.{eqb}
 use Rattle.execution.specs.Actions.{action_of}
 use Rattle.execution.proofs.ActionLaws.{class_at}
 use Rattle.execution.proofs.RoleLaws.{loads_class}
-use borrow.Author.Rules.{rules}
 use Rattle.execution.proofs.roles.is_load.Goals as goal
 
 pub returns : goal.returns

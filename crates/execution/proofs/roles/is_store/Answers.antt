@@ -4,7 +4,6 @@ use lib.Dec.{eqb}
 use Rattle.execution.specs.Actions.{action_of}
 use Rattle.execution.proofs.ActionLaws.{class_at}
 use Rattle.execution.proofs.RoleLaws.{stores_class}
-use borrow.Author.Rules.{rules}
 use Rattle.execution.proofs.roles.is_store.Goals as goal
 
 pub returns : goal.returns

@@ -3,7 +3,6 @@ use Rattle.execution.specs.Actions.{action_of}
 use Rattle.execution.specs.Execute.{stop}
 use Rattle.execution.proofs.ActionLaws.{class_at, kind_at}
 use Rattle.execution.proofs.RoleLaws.{stops_class, others_class}
-use borrow.Author.Rules.{rules}
 use Rattle.execution.proofs.roles.stop_at_once.Goals as goal
 
 pub returns-then-class-eq-STOP : goal.returns-then-class-eq-STOP

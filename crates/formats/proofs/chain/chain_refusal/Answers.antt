@@ -1,12 +1,11 @@
-use Prim.Native.Nat.{ℕ, ◌-◌, ◌/◌, ◌≤◌}
-use mathlib.Core.Path.{◌≡◌, sym, ap, ◌∙◌}
+use Prim.Native.Nat.{ℕ, ◌/◌, ◌≤◌}
+use mathlib.Core.Path.{sym, ap, ◌∙◌}
 use mathlib.Core.Bool.{false}
 use native.Mathlib.Nat.{sub-zero}
 use native.Mathlib.Omega.{arith}
 use borrow.Author.Rules.{rules}
 use lib.ListN.{length, length-set, replicate}
 use Rattle.formats.specs.Schedule.{record_length}
-use Rattle.formats.specs.Chain.{schedule_refusal}
 use Rattle.formats.proofs.HeadLaws.{at_least, at_most}
 use Rattle.formats.proofs.Marks.{marked, unmarked}
 use Rattle.formats.proofs.ChainLaws.{ended, beyond, again, refused, goes_on, turn, is_over}

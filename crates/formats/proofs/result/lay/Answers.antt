@@ -1,11 +1,11 @@
-use Prim.Native.Nat.{◌+◌, ◌*◌, ◌-◌, ◌≤◌}
+use Prim.Native.Nat.{◌+◌, ◌*◌}
 use lib.ListN.{length, get_or, take}
 use Rattle.formats.proofs.ResultLaws.{laid, all_laid}
 use mathlib.Core.Path.{◌≡◌, refl, ap, ◌∙◌}
 use native.Mathlib.Omega.{arith}
 use borrow.Author.Rules.{rules}
 use Rattle.word.proofs.BytesLaws.{put_length}
-use Rattle.formats.specs.Result.{result_words, result_length, result_bytes}
+use Rattle.formats.specs.Result.{result_words, result_bytes}
 use Rattle.formats.proofs.result.lay.Goals as goal
 
 pub loop-i-init : goal.loop-i-init

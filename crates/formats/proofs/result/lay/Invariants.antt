@@ -1,10 +1,6 @@
-use Prim.Native.Nat.{◌+◌, ◌*◌, ◌-◌, ◌≤◌}
-use lib.ListN.{length, get_or, take}
-use Rattle.formats.proofs.ResultLaws.{laid, all_laid}
-use mathlib.Core.Path.{◌≡◌, refl, ap, ◌∙◌}
-use native.Mathlib.Omega.{arith}
-use borrow.Author.Rules.{rules}
-use Rattle.word.proofs.BytesLaws.{put_length}
+use Prim.Native.Nat.{◌*◌, ◌-◌, ◌≤◌}
+use lib.ListN.{length, take}
+use mathlib.Core.Path.{◌≡◌}
 use Rattle.formats.specs.Result.{result_words, result_length, result_bytes}
 use Rattle.formats.proofs.result.lay.Given as goal
 

@@ -1,5 +1,4 @@
 use borrow.Author.Tests.{eq-eqb, ne_eqb}
-use borrow.Author.Rules.{rules}
 use Rattle.formats.proofs.result.rate.Goals as goal
 
 pub returns-then-accepted-eq0 : goal.returns-then-accepted-eq0

@@ -1,6 +1,5 @@
 use lib.ListN.{length}
 use native.Mathlib.Omega.{arith}
-use borrow.Author.Tests.{not-true, not-false}
 use Rattle.formats.proofs.HeadLaws.{at_least, length_refused, form_refused, head_accepted}
 use Rattle.formats.proofs.schedule.head_refusal.Goals as goal
 

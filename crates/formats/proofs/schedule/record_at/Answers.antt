@@ -1,5 +1,4 @@
 use Rattle.formats.specs.Schedule.{record_at}
-use borrow.Author.Rules.{rules}
 use Rattle.formats.proofs.schedule.record_at.Goals as goal
 
 pub returns : goal.returns

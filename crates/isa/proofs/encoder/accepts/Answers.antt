@@ -4,7 +4,6 @@ use Rattle.isa.specs.Codes.{format_at}
 use Rattle.isa.specs.Encodes.{within, limits_of}
 use Rattle.isa.proofs.FormatLaws.{format_at_lem}
 use Rattle.isa.proofs.Accepted.{too_low, too_high, by_format}
-use borrow.Author.Rules.{rules}
 use Rattle.isa.proofs.encoder.accepts.Goals as goal
 
 pub returns-then-operation-lt1 : goal.returns-then-operation-lt1

@@ -5,7 +5,6 @@ use mir.ValLaws.{to_z-of_z}
 use Rattle.isa.specs.Reads.{instruction}
 use Rattle.isa.specs.declared.Instruction.{Instruction}
 use Rattle.isa.proofs.Accepted.{Named, named_says, not_named, answer_written, answer_refused}
-use borrow.Author.Rules.{rules}
 use Rattle.isa.proofs.encoder.encode.Goals.{Start, Then-fit}
 use Rattle.isa.proofs.encoder.encode.Goals as goal
 

@@ -3,7 +3,6 @@ use mir.Syntax.{w32}
 use mir.ValLaws.{to_z-of_z}
 use Rattle.isa.specs.Reads.{constant_of}
 use Rattle.isa.proofs.FormatLaws.{no_constant}
-use borrow.Author.Rules.{rules}
 use Rattle.isa.proofs.fields.constant.Goals as goal
 
 pub returns-in-2 : goal.returns-in-2

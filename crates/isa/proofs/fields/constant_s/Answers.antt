@@ -1,7 +1,6 @@
 use mir.Syntax.{w32}
 use mir.ValLaws.{to_z-of_z}
 use Rattle.isa.specs.Reads.{constant_of}
-use borrow.Author.Rules.{rules}
 use Rattle.isa.proofs.fields.constant_s.Goals as goal
 
 pub returns : goal.returns

@@ -4,7 +4,6 @@ use lib.IntN.{pos}
 use mir.Syntax.{w32}
 use mir.ValLaws.{to_z_pos}
 use Rattle.isa.specs.Reads.{constant_of}
-use borrow.Author.Rules.{rules}
 use Rattle.isa.proofs.fields.constant_u.Goals as goal
 
 pub returns : goal.returns

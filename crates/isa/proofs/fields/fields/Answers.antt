@@ -2,7 +2,6 @@ use mir.Syntax.{w32}
 use mir.ValLaws.{to_z-of_z}
 use Rattle.isa.specs.Reads.{fields_of}
 use Rattle.isa.proofs.FormatLaws.{no_format}
-use borrow.Author.Rules.{rules}
 use Rattle.isa.proofs.fields.fields.Goals as goal
 
 pub returns-in-1 : goal.returns-in-1

@@ -1,5 +1,4 @@
 use Rattle.isa.proofs.FormatLaws.{no_format}
-use borrow.Author.Rules.{rules}
 use Rattle.isa.proofs.limits.in_range.Goals as goal
 
 pub returns-in-1 : goal.returns-in-1

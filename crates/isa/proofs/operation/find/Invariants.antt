@@ -1,12 +1,7 @@
-use Prim.Native.Nat.{ℕ, suc, ◌+◌, ◌-◌, ◌≤◌, ◌<◌}
-use mathlib.Core.Path.{◌≡◌, refl, sym, ap, ◌∙◌}
-use native.Mathlib.Omega.{arith}
-use borrow.Author.Rules.{rules}
-use borrow.Author.Tests.{eq-eqb, ne_eqb}
-use Rattle.isa.specs.Listing.{Format, last, format_of, fixed_of}
-use Rattle.isa.specs.Codes.{format_at}
-use Rattle.isa.specs.Reads.{fixed_part, operation_from, operation_of}
-use Rattle.isa.proofs.FormatLaws.{format_at_lem, fixed_at}
+use Prim.Native.Nat.{suc, ◌-◌, ◌≤◌}
+use mathlib.Core.Path.{◌≡◌}
+use Rattle.isa.specs.Listing.{last}
+use Rattle.isa.specs.Reads.{operation_from, operation_of}
 use Rattle.isa.proofs.operation.find.Given as goal
 
 abbrev pub invariant-loop-operation : goal.invariant-loop-operation

@@ -1,6 +1,5 @@
 use Rattle.isa.specs.Reads.{fixed_part}
 use Rattle.isa.proofs.FormatLaws.{no_format}
-use borrow.Author.Rules.{rules}
 use Rattle.isa.proofs.operation.fixed_part.Goals as goal
 
 pub returns-in-1 : goal.returns-in-1

@@ -1,7 +1,6 @@
 use mathlib.Core.Logic.{⊎_elim}
 use Rattle.isa.specs.Encodes.{constant_part}
 use Rattle.isa.proofs.FormatLaws.{no_constant}
-use borrow.Author.Rules.{rules}
 use Rattle.isa.proofs.placing.constant_part.Goals as goal
 
 pub returns-in-2 : goal.returns-in-2

@@ -4,7 +4,6 @@ use Rattle.isa.specs.Codes.{format_at}
 use Rattle.isa.specs.Reads.{legal, fields_of}
 use Rattle.isa.proofs.FormatLaws.{format_at_lem}
 use Rattle.isa.proofs.ReadLaws.{read_none, read_some}
-use borrow.Author.Rules.{rules}
 use Rattle.isa.proofs.reader.read.Goals as goal
 
 pub returns-then-found-eq0 : goal.returns-then-found-eq0

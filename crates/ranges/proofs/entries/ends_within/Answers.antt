@@ -1,5 +1,4 @@
 use Rattle.ranges.proofs.EntryLaws.{no_store}
-use borrow.Author.Rules.{rules}
 use Rattle.ranges.proofs.entries.ends_within.Goals as goal
 
 pub returns-else-i-le-LAST : goal.returns-else-i-le-LAST

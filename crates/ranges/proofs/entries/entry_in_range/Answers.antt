@@ -1,5 +1,4 @@
 use Rattle.ranges.specs.Entries.{entry_in_range}
-use borrow.Author.Rules.{rules}
 use Rattle.ranges.proofs.entries.entry_in_range.Goals as goal
 
 pub returns : goal.returns

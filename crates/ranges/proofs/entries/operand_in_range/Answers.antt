@@ -1,4 +1,3 @@
-use borrow.Author.Rules.{rules}
 use Rattle.ranges.proofs.entries.operand_in_range.Goals as goal
 
 pub returns-in-Waiting : goal.returns-in-Waiting

@@ -1,9 +1,6 @@
-use borrow.Author.Tests.{not-true, not-false}
 use mathlib.Core.Path.{sym, ◌∙◌}
-use Rattle.ranges.specs.declared.Setup.{Setup}
 use Rattle.ranges.specs.Sizes.{setup_of}
 use Rattle.ranges.proofs.SizeLaws.{window_refused, registers_refused, lengths_refused}
-use borrow.Author.Rules.{rules}
 use Rattle.ranges.proofs.sizes.refusal.Goals as goal
 
 pub returns-then-not-window_fits : goal.returns-then-not-window_fits

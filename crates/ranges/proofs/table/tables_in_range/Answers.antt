@@ -1,5 +1,4 @@
 use Rattle.ranges.specs.Tables.{tables_within}
-use borrow.Author.Rules.{rules}
 use Rattle.ranges.proofs.table.tables_in_range.Goals as goal
 
 pub returns : goal.returns

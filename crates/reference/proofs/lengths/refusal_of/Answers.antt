@@ -1,7 +1,5 @@
-use borrow.Author.Tests.{not-true, not-false}
 use mathlib.Core.Path.{sym, ◌∙◌}
 use Rattle.reference.proofs.LengthLaws.{program_refused, data_refused, none_refused}
-use borrow.Author.Rules.{rules}
 use Rattle.reference.proofs.lengths.refusal_of.Goals as goal
 
 pub returns-then-not-program_fits : goal.returns-then-not-program_fits

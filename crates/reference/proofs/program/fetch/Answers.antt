@@ -2,11 +2,9 @@ use Prim.Native.Nat.{ℕ}
 use mathlib.Core.Path.{◌≡◌, sym, ap, ◌∙◌}
 use mathlib.Core.Bool.{true}
 use mathlib.Core.List.{List}
-use borrow.Author.Tests.{not-true, not-false}
 use Rattle.isa.specs.Reads.{numbers_of, read_of}
 use Rattle.reference.specs.Fetch.{no_instruction, has_word, word_at}
 use Rattle.reference.proofs.FetchLaws.{fetch_outside, fetch_illegal, fetch_legal}
-use borrow.Author.Rules.{rules}
 use Rattle.reference.proofs.program.fetch.Goals.{After-read}
 use Rattle.reference.proofs.program.fetch.Goals as goal
 

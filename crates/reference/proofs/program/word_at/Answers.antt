@@ -1,6 +1,5 @@
 use native.Mathlib.Omega.{arith}
 use Rattle.execution.proofs.MemoryLaws.{access_room}
-use borrow.Author.Rules.{rules}
 use Rattle.reference.proofs.program.word_at.Goals as goal
 
 pub load-requires : goal.load-requires

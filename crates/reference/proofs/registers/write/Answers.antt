@@ -1,6 +1,5 @@
 use borrow.Author.Tests.{eq-eqb, ne_eqb}
 use Rattle.reference.specs.Step.{write_register}
-use borrow.Author.Rules.{rules}
 use Rattle.reference.proofs.registers.write.Goals as goal
 
 pub returns-then-r-ne0 : goal.returns-then-r-ne0

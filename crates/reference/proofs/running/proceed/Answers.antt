@@ -1,15 +1,15 @@
 use Rattle.reference.specs.Step.{Step}
 use Rattle.reference.proofs.StepLaws.{step_registers, step_kept}
 use Rattle.reference.proofs.RunLaws.{after_zero, answer_of}
-use Prim.Native.Nat.{ℕ, ◌-◌, ◌≤◌}
-use mathlib.Core.Path.{◌≡◌, refl, sym, ap, ◌∙◌}
+use Prim.Native.Nat.{ℕ, ◌-◌}
+use mathlib.Core.Path.{refl, sym, ap, ◌∙◌}
 use native.Mathlib.Nat.{sub-zero}
 use native.Mathlib.Omega.{arith}
 use borrow.Author.Rules.{rules}
 use lib.ListN.{length}
 use Rattle.execution.specs.Execute.{stop}
 use Rattle.reference.specs.Step.{State, state}
-use Rattle.reference.specs.Run.{after, run_of}
+use Rattle.reference.specs.Run.{run_of}
 use Rattle.reference.proofs.RunLaws.{goes_on, stops_there, is_over}
 use Rattle.reference.proofs.running.proceed.Goals as goal
 

@@ -1,7 +1,6 @@
 use mathlib.Core.Path.{◌∙◌}
 use Rattle.reference.specs.Step.{state}
 use Rattle.reference.proofs.RunLaws.{run_refused, run_accepted}
-use borrow.Author.Rules.{rules}
 use Rattle.reference.proofs.running.run.Goals as goal
 
 pub returns-then-refusal-ne0 : goal.returns-then-refusal-ne0

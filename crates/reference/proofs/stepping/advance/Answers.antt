@@ -3,7 +3,6 @@ use Rattle.reference.specs.Fetch.{fetch_numbers}
 use Rattle.reference.specs.Step.{state}
 use Rattle.reference.proofs.FetchLaws.{found_small}
 use Rattle.reference.proofs.StepLaws.{step_found, step_stopped}
-use borrow.Author.Rules.{rules}
 use Rattle.reference.proofs.stepping.advance.Goals as goal
 
 pub make-requires : goal.make-requires

@@ -1,6 +1,5 @@
 use Rattle.reference.specs.Step.{state}
 use Rattle.reference.proofs.StepLaws.{step_refused, step_accepted}
-use borrow.Author.Rules.{rules}
 use Rattle.reference.proofs.stepping.step.Goals as goal
 
 pub returns-then-refusal-ne0 : goal.returns-then-refusal-ne0

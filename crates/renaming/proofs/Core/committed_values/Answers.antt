@@ -1,6 +1,5 @@
 use mathlib.Core.Path.{ap, ◌∙◌}
 use Rattle.renaming.specs.Report.{values_in}
-use borrow.Author.Rules.{rules}
 use Rattle.renaming.proofs.Core.committed_values.Goals as goal
 
 pub returns : goal.returns

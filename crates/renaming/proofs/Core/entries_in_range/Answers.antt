@@ -1,11 +1,7 @@
-use Prim.Native.Nat.{◌-◌, ◌≤◌}
-use mathlib.Core.Bool.{◌&&◌}
-use mathlib.Core.Path.{◌≡◌, sym, ◌∙◌}
+use mathlib.Core.Path.{sym, ◌∙◌}
 use native.Mathlib.Nat.{sub-zero}
 use native.Mathlib.Omega.{arith}
-use borrow.Author.Rules.{rules}
 use Rattle.tables.specs.Entry.{empty_entry}
-use Rattle.ranges.specs.Tables.{every_from}
 use Rattle.ranges.specs.Entries.{entry_in_range}
 use Rattle.ranges.proofs.TableLaws.{every_turn, every_done}
 use Rattle.renaming.proofs.Core.entries_in_range.Goals as goal

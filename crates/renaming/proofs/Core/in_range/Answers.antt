@@ -1,7 +1,6 @@
 use mathlib.Core.Path.{◌≡◌, sym, ◌∙◌}
 use lib.ListN.{length}
 use native.Mathlib.Omega.{arith}
-use borrow.Author.Tests.{not-true, not-false}
 use Rattle.renaming.proofs.RangeLaws.{setup_refused, count_refused, swept}
 use Rattle.ranges.proofs.SizeLaws.{setup_sizes}
 use borrow.Author.Rules.{rules}

@@ -1,8 +1,6 @@
 use mathlib.Core.Path.{sym, ap, ◌∙◌}
 use mathlib.Core.Bool.{not}
-use borrow.Author.Tests.{not-true, not-false}
 use Rattle.renaming.proofs.RefusalLaws.{lent_range, lent_lengths, lent_none}
-use borrow.Author.Rules.{rules}
 use Rattle.renaming.proofs.Core.lent_refusal.Goals as goal
 
 pub returns-then-not-in_range : goal.returns-then-not-in_range

@@ -1,12 +1,7 @@
 use Prim.Native.Nat.{ℕ, ◌-◌, ◌≤◌, ◌<◌}
-use mathlib.Core.Path.{◌≡◌, refl, sym, ap, ◌∙◌}
-use native.Mathlib.Omega.{arith}
-use borrow.Author.Rules.{rules}
-use lib.ListN.{length, get_or, length-set}
-use lib.Seq.{ext_get_or}
-use Rattle.tables.specs.Table.{look_up}
-use Rattle.renaming.specs.Report.{value_in, values_in}
-use Rattle.renaming.proofs.TabulateLaws.{tabulate_length, tabulate_at, filled_more}
+use mathlib.Core.Path.{◌≡◌}
+use lib.ListN.{length, get_or}
+use Rattle.renaming.specs.Report.{value_in}
 use Rattle.renaming.proofs.Core.mapped_values.Given as goal
 
 abbrev pub invariant-loop-r : goal.invariant-loop-r

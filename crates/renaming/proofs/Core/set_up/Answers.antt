@@ -5,7 +5,6 @@ use Rattle.renaming.proofs.SetUpLaws.{answer_refused, answer_fresh}
 use Rattle.ranges.specs.Sizes.{setup_of}
 use Rattle.ranges.specs.declared.Setup.{Setup}
 use Rattle.ranges.proofs.SizeLaws.{Sizes, accepted_sizes}
-use borrow.Author.Rules.{rules}
 use Rattle.renaming.proofs.Core.set_up.Goals.{Else-number-ne0, Start}
 use Rattle.renaming.proofs.Core.set_up.Goals as goal
 

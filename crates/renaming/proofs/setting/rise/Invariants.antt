@@ -1,11 +1,7 @@
 use Prim.Native.Nat.{ℕ, ◌-◌, ◌≤◌, ◌<◌}
-use mathlib.Core.Path.{◌≡◌, sym, ◌∙◌}
-use native.Mathlib.Omega.{arith}
-use borrow.Author.Rules.{rules}
-use lib.ListN.{length, get_or, length-set}
-use lib.Seq.{ext_get_or}
-use Rattle.renaming.specs.SetUp.{rising_next, rising_link}
-use Rattle.renaming.proofs.TabulateLaws.{tabulate_length, tabulate_at, filled_more}
+use mathlib.Core.Path.{◌≡◌}
+use lib.ListN.{length, get_or}
+use Rattle.renaming.specs.SetUp.{rising_next}
 use Rattle.renaming.proofs.setting.rise.Given as goal
 
 abbrev pub invariant-loop-k : goal.invariant-loop-k

@@ -1,4 +1,3 @@
-use borrow.Author.Rules.{rules}
 use Rattle.renaming.proofs.setting.successor.Goals as goal
 
 pub returns-then-k-last : goal.returns-then-k-last

@@ -1,4 +1,3 @@
-use borrow.Author.Rules.{rules}
 use Rattle.renaming.proofs.setting.zeros.Goals as goal
 
 pub returns : goal.returns

@@ -1,4 +1,3 @@
-use borrow.Author.Rules.{rules}
 use Rattle.tables.proofs.entries.held.Goals as goal
 
 pub returns-in-Waits : goal.returns-in-Waits

@@ -1,7 +1,6 @@
 use mathlib.Core.Bool.{false}
 use native.Mathlib.Omega.{arith}
 use Rattle.tables.proofs.TableLaws.{under_zero, under_within, under_beyond}
-use borrow.Author.Rules.{rules}
 use Rattle.tables.proofs.maps.is_valid.Goals as goal
 
 pub returns-then-at-eq0 : goal.returns-then-at-eq0

@@ -1,6 +1,5 @@
 use native.Mathlib.Omega.{arith}
 use Rattle.tables.proofs.TableLaws.{store_zero, store_within, store_beyond}
-use borrow.Author.Rules.{rules}
 use Rattle.tables.proofs.maps.map_to.Goals as goal
 
 pub returns-then-at-lt32 : goal.returns-then-at-lt32

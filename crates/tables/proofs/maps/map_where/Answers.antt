@@ -1,4 +1,3 @@
-use borrow.Author.Rules.{rules}
 use Rattle.tables.proofs.maps.map_where.Goals as goal
 
 pub returns-then-holds : goal.returns-then-holds

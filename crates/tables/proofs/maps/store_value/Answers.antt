@@ -1,6 +1,5 @@
 use native.Mathlib.Omega.{arith}
 use Rattle.tables.proofs.TableLaws.{store_zero, store_within, store_beyond}
-use borrow.Author.Rules.{rules}
 use Rattle.tables.proofs.maps.store_value.Goals as goal
 
 pub returns-then-at-lt-PLACES : goal.returns-then-at-lt-PLACES

@@ -1,6 +1,5 @@
 use native.Mathlib.Omega.{arith}
 use Rattle.tables.proofs.TableLaws.{look_zero, look_within, look_beyond}
-use borrow.Author.Rules.{rules}
 use Rattle.tables.proofs.maps.value.Goals as goal
 
 pub returns-then-at-eq0 : goal.returns-then-at-eq0

@@ -1,5 +1,4 @@
 use borrow.Author.Tests.{eq-eqb, ne_eqb}
-use borrow.Author.Rules.{rules}
 use Rattle.tables.proofs.operands.sleep.Goals as goal
 
 pub returns-in-Waiting : goal.returns-in-Waiting

@@ -1,4 +1,3 @@
-use borrow.Author.Rules.{rules}
 use Rattle.tables.proofs.operands.value_of.Goals as goal
 
 pub returns-in-Ready : goal.returns-in-Ready

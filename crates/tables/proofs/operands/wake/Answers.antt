@@ -1,5 +1,4 @@
 use borrow.Author.Tests.{eq-eqb, ne_eqb}
-use borrow.Author.Rules.{rules}
 use Rattle.tables.proofs.operands.wake.Goals as goal
 
 pub returns-then-n-name : goal.returns-then-n-name

@@ -1,11 +1,6 @@
-use mathlib.Core.Path.{◌≡◌, ap, ◌∙◌}
+use mathlib.Core.Path.{ap, ◌∙◌}
 use Rattle.tables.specs.Entry.{predicted_entry}
 use Rattle.tables.specs.declared.Entry.{Entry}
-use borrow.Author.Rules.{rules}
-use Rattle.turns.proofs.changes.finished.Reads as reads
-use Rattle.turns.proofs.changes.finished.Lts as lts
-use Rattle.tables.proofs.entries.completed.Reads as completed-reads
-use Rattle.tables.proofs.entries.predicted.Reads as predicted-reads
 use Rattle.turns.proofs.changes.finished.Goals as goal
 
 pub returns : goal.returns

@@ -1,15 +1,8 @@
 use Prim.Native.Nat.{ℕ}
-use mathlib.Core.Path.{◌≡◌, ap, ◌∙◌}
+use mathlib.Core.Path.{ap, ◌∙◌}
 use lib.Dec.{eqb}
 use Rattle.isa.specs.Reads.{choose}
 use Rattle.tables.specs.Table.{store_under}
-use borrow.Author.Rules.{rules}
-use Rattle.turns.proofs.changes.learn.Reads as reads
-use Rattle.turns.proofs.changes.learn.Lts as lts
-use Rattle.tables.proofs.maps.map_where.Reads as map-where-reads
-use Rattle.tables.proofs.maps.mapped.Reads as mapped-reads
-use Rattle.tables.proofs.maps.store_under.Reads as store-under-reads
-use Rattle.tables.proofs.maps.valid_where.Reads as valid-where-reads
 use Rattle.turns.proofs.changes.learn.Goals as goal
 
 pub returns : goal.returns

@@ -1,11 +1,6 @@
-use mathlib.Core.Path.{◌≡◌, ap, ◌∙◌}
+use mathlib.Core.Path.{ap, ◌∙◌}
 use Rattle.tables.specs.Entry.{wake_entry}
 use Rattle.tables.specs.declared.Entry.{Entry}
-use borrow.Author.Rules.{rules}
-use Rattle.turns.proofs.changes.passed_on.Reads as reads
-use Rattle.turns.proofs.changes.passed_on.Lts as lts
-use Rattle.tables.proofs.entries.sleep.Reads as sleep-reads
-use Rattle.tables.proofs.entries.wake.Reads as wake-reads
 use Rattle.turns.proofs.changes.passed_on.Goals as goal
 
 pub returns : goal.returns

@@ -1,20 +1,11 @@
 use Prim.Native.Nat.{ℕ}
-use mathlib.Core.Path.{◌≡◌, ap, ◌∙◌}
+use mathlib.Core.Path.{ap, ◌∙◌}
 use mathlib.Core.Bool.{not}
 use lib.Dec.{eqb}
 use lib.ListN.{length}
 use Rattle.tables.specs.Table.{store_under}
 use Rattle.tables.specs.FreeList.{freed_head, freed_link}
 use Rattle.tables.proofs.TableLaws.{store_length}
-use borrow.Author.Rules.{rules}
-use Rattle.turns.proofs.changes.restore.Reads as reads
-use Rattle.turns.proofs.changes.restore.Lts as lts
-use Rattle.tables.proofs.entries.held.Reads as held_reads
-use Rattle.tables.proofs.free_list.free.Reads as free-reads
-use Rattle.tables.proofs.maps.look_up.Reads as look-up-reads
-use Rattle.tables.proofs.maps.map_to.Reads as map-to-reads
-use Rattle.tables.proofs.maps.set_valid.Reads as set-valid-reads
-use Rattle.tables.proofs.maps.store_under.Reads as store-under-reads
 use Rattle.turns.proofs.changes.restore.Goals as goal
 
 pub look_up-back-requires : goal.look_up-back-requires

@@ -1,12 +1,6 @@
 use Prim.Native.Nat.{ℕ}
-use mathlib.Core.Path.{◌≡◌, ap, ◌∙◌}
+use mathlib.Core.Path.{ap, ◌∙◌}
 use Rattle.tables.specs.FreeList.{freed_head, freed_link}
-use borrow.Author.Rules.{rules}
-use Rattle.turns.proofs.changes.retire.Reads as reads
-use Rattle.turns.proofs.changes.retire.Lts as lts
-use Rattle.tables.proofs.free_list.free.Reads as free-reads
-use Rattle.tables.proofs.maps.look_up.Reads as look-up-reads
-use Rattle.tables.proofs.maps.store_under.Reads as store-under-reads
 use Rattle.turns.proofs.changes.retire.Goals as goal
 
 pub returns : goal.returns

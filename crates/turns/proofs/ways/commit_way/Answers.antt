@@ -1,9 +1,5 @@
-use borrow.Author.Tests.{not-true, not-false}
 use mathlib.Core.Path.{sym, ◌∙◌}
 use borrow.Author.Tests.{eq-eqb, ne_eqb}
-use borrow.Author.Rules.{rules}
-use Rattle.turns.proofs.ways.commit_way.Reads as reads
-use Rattle.turns.proofs.ways.commit_way.Lts as lts
 use Rattle.turns.proofs.ways.commit_way.Goals as goal
 
 pub returns-then-not-is_completed : goal.returns-then-not-is_completed

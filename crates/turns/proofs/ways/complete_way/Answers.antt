@@ -1,5 +1,4 @@
 use mathlib.Core.Path.{sym, ◌∙◌}
-use borrow.Author.Rules.{rules}
 use Rattle.turns.proofs.ways.complete_way.Goals as goal
 
 pub returns-then-is_issued : goal.returns-then-is_issued

@@ -1,5 +1,4 @@
 use borrow.Author.Tests.{le-leb, lt-leb}
-use borrow.Author.Rules.{rules}
 use Rattle.turns.proofs.ways.decode_way.Goals as goal
 
 pub returns-then-s-count : goal.returns-then-s-count

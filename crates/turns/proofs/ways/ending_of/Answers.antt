@@ -1,6 +1,4 @@
 use borrow.Author.Tests.{eq-eqb, ne_eqb}
-use Rattle.turns.proofs.ways.ending_of.Reads as reads
-use Rattle.turns.proofs.ways.ending_of.Lts as lts
 use Rattle.turns.proofs.ways.ending_of.Goals as goal
 
 pub returns-then-stop-ne0 : goal.returns-then-stop-ne0

@@ -1,6 +1,4 @@
 use borrow.Author.Tests.{eq-eqb, ne_eqb}
-use Rattle.turns.proofs.ways.fetch_after.Reads as reads
-use Rattle.turns.proofs.ways.fetch_after.Lts as lts
 use Rattle.turns.proofs.ways.fetch_after.Goals as goal
 
 pub returns-then-next-predicted : goal.returns-then-next-predicted

@@ -1,8 +1,4 @@
-use borrow.Author.Tests.{not-true, not-false}
 use mathlib.Core.Path.{sym, ◌∙◌}
-use borrow.Author.Rules.{rules}
-use Rattle.turns.proofs.ways.issue_way.Reads as reads
-use Rattle.turns.proofs.ways.issue_way.Lts as lts
 use Rattle.turns.proofs.ways.issue_way.Goals as goal
 
 pub returns-then-not-is_waiting : goal.returns-then-not-is_waiting

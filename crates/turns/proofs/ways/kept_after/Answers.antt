@@ -1,9 +1,6 @@
 use native.Mathlib.Omega.{arith}
 use native.Mathlib.Numerals.{add-one}
 use borrow.Author.Tests.{eq-eqb, ne_eqb}
-use borrow.Author.Rules.{rules}
-use Rattle.turns.proofs.ways.kept_after.Reads as reads
-use Rattle.turns.proofs.ways.kept_after.Lts as lts
 use Rattle.turns.proofs.ways.kept_after.Goals as goal
 
 pub returns-then-next-predicted : goal.returns-then-next-predicted

@@ -1,7 +1,6 @@
 use mathlib.Core.Path.{sym, ap, ◌∙◌}
 use native.Mathlib.Omega.{arith}
 use Rattle.turns.specs.Ways.{place_of}
-use borrow.Author.Rules.{rules}
 use Rattle.turns.proofs.ways.place.Goals as goal
 
 pub returns-in-Decode : goal.returns-in-Decode

@@ -2,7 +2,6 @@ use mathlib.Core.Path.{sym, ◌∙◌}
 use borrow.Author.Tests.{eq-eqb, ne_eqb, le-leb, lt-leb}
 use Rattle.turns.specs.Ways.{way_of}
 use Rattle.turns.proofs.WayLaws.{way_running, place_most}
-use borrow.Author.Rules.{rules}
 use Rattle.turns.proofs.ways.way_of.Goals as goal
 
 pub returns-then-halt-ne0 : goal.returns-then-halt-ne0

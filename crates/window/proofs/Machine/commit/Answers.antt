@@ -3,7 +3,6 @@ use Rattle.renaming.specs.Call.{lent_refusal, in_turn}
 use Rattle.committing.specs.Commit.{commit_refusal, commit_of}
 use Rattle.renaming.proofs.RefusalLaws.{lent_first, in_range_lent}
 use Rattle.committing.proofs.CommitLaws.{commit_refused, commit_lent}
-use borrow.Author.Rules.{rules}
 use Rattle.window.proofs.Machine.commit.Goals as goal
 
 pub returns-then-number-ne0 : goal.returns-then-number-ne0

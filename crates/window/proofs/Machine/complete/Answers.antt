@@ -3,7 +3,6 @@ use Rattle.renaming.specs.Call.{lent_refusal, in_turn}
 use Rattle.completing.specs.Complete.{complete_refusal, completed, complete_of}
 use Rattle.renaming.proofs.RefusalLaws.{answered_refused, lent_first, in_range_lent}
 use Rattle.completing.proofs.CompleteLaws.{complete_lent}
-use borrow.Author.Rules.{rules}
 use Rattle.window.proofs.Machine.complete.Goals as goal
 
 pub returns-then-number-ne0 : goal.returns-then-number-ne0

@@ -3,7 +3,6 @@ use Rattle.renaming.specs.Call.{lent_refusal, in_turn}
 use Rattle.decoding.specs.Decode.{decode_refusal, decoded, decode_of}
 use Rattle.renaming.proofs.RefusalLaws.{answered_refused, lent_first, in_range_lent, in_range_window}
 use Rattle.decoding.proofs.DecodeLaws.{decode_lent}
-use borrow.Author.Rules.{rules}
 use Rattle.window.proofs.Machine.decode.Goals as goal
 
 pub returns-then-number-ne0 : goal.returns-then-number-ne0

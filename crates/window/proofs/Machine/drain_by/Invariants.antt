@@ -1,14 +1,8 @@
-use Prim.Native.Nat.{ℕ, ◌-◌, ◌≤◌}
-use mathlib.Core.Path.{◌≡◌, refl, sym, ap, ◌∙◌}
-use native.Mathlib.Nat.{sub-zero}
-use native.Mathlib.Omega.{arith}
-use borrow.Author.Rules.{rules}
+use Prim.Native.Nat.{◌-◌, ◌≤◌}
+use mathlib.Core.Path.{◌≡◌}
 use lib.ListN.{length}
-use Rattle.window.specs.Calls.{make}
 use Rattle.window.specs.Drain.{drain_from}
 use Rattle.window.specs.Handed as Handed
-use Rattle.window.specs.declared.Call.{Call}
-use Rattle.window.proofs.DrainLaws.{drain_over, drain_idle, drain_refused, drain_goes}
 use Rattle.window.proofs.Machine.drain_by.Given as goal
 
 abbrev pub invariant-loop-calls : goal.invariant-loop-calls

@@ -1,6 +1,5 @@
 use Rattle.window.specs.Handed as Handed
 use Rattle.window.proofs.MakeLaws.{decode_made, issue_made, complete_made, commit_made}
-use borrow.Author.Rules.{rules}
 use Rattle.window.proofs.Machine.make.Goals as goal
 
 pub returns-in-Decode : goal.returns-in-Decode

@@ -1,6 +1,5 @@
 use mathlib.Core.Path.{sym, ap}
 use Rattle.window.specs.Calls.{needed_by}
-use borrow.Author.Rules.{rules}
 use Rattle.window.proofs.Machine.needed.Goals as goal
 
 pub returns-in-Waits : goal.returns-in-Waits

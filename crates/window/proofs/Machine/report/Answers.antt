@@ -1,10 +1,8 @@
 use Prim.Native.Nat.{ℕ}
 use mathlib.Core.Path.{sym, ap, ◌∙◌}
 use mathlib.Core.List.{List}
-use borrow.Author.Tests.{not-true, not-false}
 use Rattle.renaming.proofs.RangeLaws.{in_range_count}
 use Rattle.window.proofs.ReportLaws.{report_refused, report_given}
-use borrow.Author.Rules.{rules}
 use Rattle.window.proofs.Machine.report.Goals as goal
 
 pub returns-then-not-in_range : goal.returns-then-not-in_range

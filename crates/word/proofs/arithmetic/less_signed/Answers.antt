@@ -1,4 +1,4 @@
-use Rattle.std.proofs.Common.{w32, rules}
+use Rattle.std.proofs.Common.{w32}
 use mir.ValLaws.{to_z-of_z}
 use Rattle.word.proofs.arithmetic.less_signed.Goals as goal
 

@@ -1,4 +1,4 @@
-use Rattle.std.proofs.Common.{◌^◌, ℤ, ap, ◌∙◌, w32, of_z, rules}
+use Rattle.std.proofs.Common.{◌^◌, ℤ, ap, ◌∙◌, w32, of_z}
 use lib.Signed.{mag_shr, shr_z}
 use mir.ValLaws.{to_z-of_z, sfits_le}
 use Rattle.word.proofs.arithmetic.shift_right_signed.Goals as goal

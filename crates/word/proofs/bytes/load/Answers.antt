@@ -1,4 +1,4 @@
-use Rattle.std.proofs.Common.{◌≡◌, ℕ, zero, suc, ◌+◌, ◌-◌, ◌*◌, ◌^◌, ◌<◌, ◌≤◌, List, add_comm, pow-suc, arith, rules}
+use Rattle.std.proofs.Common.{◌≡◌, ℕ, zero, suc, ◌+◌, ◌-◌, ◌*◌, ◌^◌, ◌<◌, ◌≤◌, List, add_comm, pow-suc, arith}
 use lib.Arith.{digits_lt}
 use Rattle.word.specs.Bytes.{number, byte_of}
 use Rattle.word.proofs.bytes.load.Goals.{After-shared_slice_known-1, In-loop-k}

@@ -1,5 +1,4 @@
-use Rattle.std.proofs.Common.{◌≡◌, ℕ, zero, suc, ◌+◌, ◌-◌, ◌*◌, ◌^◌, ◌<◌, ◌≤◌, List, add_comm, pow-suc, arith, rules}
-use lib.Arith.{digits_lt}
+use Rattle.std.proofs.Common.{◌≡◌, ◌+◌, ◌-◌, ◌^◌, ◌<◌, ◌≤◌}
 use Rattle.word.specs.Bytes.{number, byte_of}
 use Rattle.word.proofs.bytes.load.Given as goal
 

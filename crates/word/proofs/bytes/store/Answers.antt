@@ -1,4 +1,4 @@
-use Rattle.std.proofs.Common.{◌≡◌, ℕ, suc, ◌+◌, ◌-◌, ◌/◌, ◌%◌, ◌<◌, ◌≤◌, List, length, set, sym, refl, ap, ◌∙◌, add-zero, arith, length-set, rules}
+use Rattle.std.proofs.Common.{◌≡◌, ℕ, suc, ◌+◌, ◌-◌, ◌/◌, ◌%◌, ◌<◌, ◌≤◌, List, set, sym, refl, ap, ◌∙◌, add-zero, arith, length-set}
 use native.Mathlib.Nat.{sub-zero}
 use Rattle.word.specs.Bytes.{put}
 use Rattle.word.proofs.bytes.store.Goals as goal

@@ -1,4 +1,4 @@
-use Rattle.std.proofs.Common.{◌/◌, ◌^◌, refl, mod-lt, pow_pos, rules}
+use Rattle.std.proofs.Common.{◌/◌, ◌^◌, refl, mod-lt, pow_pos}
 use Rattle.word.specs.Field as Field
 use Rattle.word.proofs.FieldLaws.{shifted_one}
 use Rattle.word.proofs.fields.field.Goals as goal

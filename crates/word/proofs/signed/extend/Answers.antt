@@ -1,4 +1,4 @@
-use Rattle.std.proofs.Common.{◌≡◌, ℕ, suc, ◌+◌, ◌-◌, ◌^◌, ◌<◌, ap, ◌∙◌, arith, w32, to_z, rules, le-ltb, lt-ltb}
+use Rattle.std.proofs.Common.{◌≡◌, ℕ, suc, ◌+◌, ◌-◌, ◌^◌, ◌<◌, ap, ◌∙◌, arith, w32, to_z, le-ltb, lt-ltb}
 use mir.ValLaws.{to_z_pos, to_z-neg}
 use Rattle.word.specs.Signed as Signed
 use Rattle.word.proofs.signed.extend.Goals as goal

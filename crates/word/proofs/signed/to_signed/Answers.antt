@@ -1,4 +1,4 @@
-use Rattle.std.proofs.Common.{◌≡◌, ◌-◌, ◌^◌, ap, arith, w32, to_z, rules}
+use Rattle.std.proofs.Common.{◌≡◌, ◌-◌, ◌^◌, ap, arith, w32, to_z}
 use Rattle.word.proofs.signed.to_signed.Goals as goal
 
 pub returns-else-word-lt2147483648 : goal.returns-else-word-lt2147483648
