@@ -15,7 +15,7 @@ use Rattle.window.specs.declared.Report.{Report}
 use Rattle.formats.specs.Schedule.{longest, window_in, registers_in, schedule_fits}
 use Rattle.formats.specs.Chain.{events_of}
 use Rattle.formats.specs.Result.{result_length, rate_of, result_bytes}
-use Rattle.formats.proofs.Laws.{statement as Chain-laws}
+use Rattle.formats.proofs.Laws.{statement as chain_laws}
 use Rattle.formats.proofs.HeadLaws.{at_least, at_most}
 use Rattle.events.specs.Counts.{Played}
 use Rattle.events.specs.Numbers.{played_by}
@@ -52,7 +52,7 @@ module _ (program memory schedule : List ℕ) (none : replay_refusal program mem
   events_few =
       let least = at_least (length schedule) fits in
       let most = at_most (length schedule) fits in
-      let fewer = Chain-laws.events_fewer schedule (omega arith) facts.chain in
+      let fewer = chain_laws.events_fewer schedule (omega arith) facts.chain in
       omega arith
 
   pub accepted_few : (played_of program memory schedule).counts.accepted ≤ longest
