@@ -1,4 +1,5 @@
 """Copies of the repository with edits in them, and what the test programs say of such a copy."""
+import glob
 import os
 import re
 import shutil
@@ -17,14 +18,10 @@ def write(path, text):
         file.write(text)
 
 
-def copied(folder, programs, first="differ "):
-    """A copy of the crates in which the outputs of these programs end before the first count of differences, so that
-    `rt try` shows what they wrote from there on."""
+def copied(folder):
+    """A copy of the crates, without what was made of them."""
     shutil.copy(os.path.join(ROOT, "crates.txt"), folder)
-    shutil.copytree(os.path.join(ROOT, "crates"), os.path.join(folder, "crates"))
-    for program in programs:
-        path = os.path.join(folder, "crates", program, "stdout")
-        write(path, read(path).split(first)[0] + "?")
+    shutil.copytree(os.path.join(ROOT, "crates"), os.path.join(folder, "crates"), ignore=shutil.ignore_patterns("out"))
 
 
 def misfit(text, edit):
@@ -89,15 +86,17 @@ def restored(before):
 
 
 def run(folder, *words):
-    """What a command says."""
+    """How a command ends, and what it says on standard output and on standard error."""
     done = subprocess.run(words, cwd=folder, capture_output=True, text=True)
-    return done.stdout + done.stderr
+    return done.returncode, done.stdout, done.stderr
 
 
 def differences(folder, program, words="differ"):
     """The numbers after `differ`, or other words, in what the program writes, compiled and without a proof."""
-    said = run(folder, "rt", "try", program)
-    found = re.search(r'-O3 ended.*\n.*found "(.*)"', said)
-    if not found:
-        raise SystemExit("%s did not end:\n%s" % (program, said))
-    return [int(number) for number in re.findall(r"(?:%s) (\d+)" % words, found[1])]
+    crate = os.path.join(folder, "crates", program)
+    data = sorted(glob.glob(os.path.join(crate, "data", "*")))
+    given = [word for path in data for word in ("--data", "%s=%s" % (os.path.basename(path), path))]
+    status, said, told = run(crate, "rt", "try", *given)
+    if status != 0:
+        raise SystemExit("%s did not end:\n%s%s" % (program, said, told))
+    return [int(number) for number in re.findall(r"^(?:%s) (\d+)" % words, said, re.MULTILINE)]
