@@ -1,15 +1,27 @@
-# How the scripts beside it build what they run. They source it at the top of the tree; all that is made goes to target/.
+# How the scripts beside it build what they run. They source it at the top of the tree. What they make goes to target/; what rt
+# makes stays in crates/NAME/out.
 made=target/harness
 mkdir -p "$made"
 
-# Runs an rt command and tells standard error each crate that it proves; what else it says is shown only where it fails.
+# Runs rt in a crate's folder and tells standard error each crate that it begins to prove; what else it says is shown only where
+# it fails.
 telling() {
     rm -f "$made/passed"
-    { "$@" && : >"$made/passed"; } 2>&1 | while IFS= read -r line; do
+    { (cd "crates/$1" && rt "$2") && : >"$made/passed"; } 2>&1 | while IFS= read -r line; do
         printf '%s\n' "$line"
-        case $line in 'rt: '*' proved ('[0-9]*' s)') printf '%s\n' "$line" >&2 ;; esac
+        case $line in 'rt: chose --jobs '*) printf 'proving %s\n' "${line##* }" >&2 ;; esac
     done >"$made/log"
     [ -f "$made/passed" ] || { cat "$made/log"; exit 1; }
+}
+
+# Proves the static library NAME, over what earlier runs kept, and makes crates/NAME/out/libNAME.a.
+library() {
+    telling "$1" lib
+}
+
+# Proves the program NAME, over what earlier runs kept, and makes crates/NAME/out/NAME. rt also runs it once, in the crate's folder.
+program() {
+    telling "$1" run
 }
 
 rust() {

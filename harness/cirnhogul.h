@@ -1,5 +1,5 @@
 /* Cirnhogul for C and C++: schedules replayed on a RISC-V core with stealable physical registers, and instruction words
-   encoded. Link with target/staticlib/libcirnhogul.a, which `rt staticlib cirnhogul` makes.
+   encoded. Link with crates/cirnhogul/out/libcirnhogul.a, which `rt lib` makes in crates/cirnhogul.
 
    A buffer is a pointer and its length in bytes. An empty buffer's pointer may be anything, null too. A pointer that is null,
    or leads to fewer bytes than the length says, is the caller's mistake where the length is above 0, and no call can find it
