@@ -96,7 +96,8 @@ def differences(folder, program, words="differ"):
     crate = os.path.join(folder, "crates", program)
     data = sorted(glob.glob(os.path.join(crate, "data", "*")))
     given = [word for path in data for word in ("--data", "%s=%s" % (os.path.basename(path), path))]
-    status, said, told = run(crate, "rt", "try", *given)
+    # the compiled run is the one that counts: it has time, and the interpreter beside it none
+    status, said, told = run(crate, "rt", "try", "--steps", "1", "--seconds", "600", *given)
     if status != 0:
         raise SystemExit("%s did not end:\n%s%s" % (program, said, told))
     return [int(number) for number in re.findall(r"^(?:%s) (\d+)" % words, said, re.MULTILINE)]
