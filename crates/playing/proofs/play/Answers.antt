@@ -212,7 +212,8 @@ bounds-entries-at c =
 
 pub way_of-way-requires : goal.way_of-way-requires
 way_of-way-requires c =
-    λ h. in_range_operation (core (goal.at.way_of-way-requires c).At-turns) _ (in_range (turn_going (goal.at.way_of-way-requires c).Else-kept-count)) (subst (λ (n : ℕ). n < (core (goal.at.way_of-way-requires c).At-turns).count) (sym c.place-at.ensures.0) h)
+    let h' = (goal.at.way_of-way-requires c).At-turns in
+    λ h. in_range_operation (core h') _ (in_range (turn_going (goal.at.way_of-way-requires c).Else-kept-count)) (subst (λ (n : ℕ). n < (core h').count) (sym c.place-at.ensures.0) h)
 
 pub overflow_cast-occupied : goal.overflow_cast-occupied
 overflow_cast-occupied c =
@@ -220,9 +221,10 @@ overflow_cast-occupied c =
 
 pub returns : goal.returns
 returns c =
+    let e = (goal.at.returns c).Else-kept-count in
     elim c.if-left-eq0.branch [
-      | then-left-eq0 w ↦ ends (turn_going (goal.at.returns c).Else-kept-count) w.if-left-eq0.true
-      | else-left-eq0+then-index-eq0 w ↦ chain_ends (turn_going (goal.at.returns c).Else-kept-count) w.if-index-eq0.true
+      | then-left-eq0 w ↦ ends (turn_going e) w.if-left-eq0.true
+      | else-left-eq0+then-index-eq0 w ↦ chain_ends (turn_going e) w.if-index-eq0.true
     ]
 
 -- The drop of one entry.
@@ -305,15 +307,17 @@ turns-smaller-in-Decode c =
 
 pub turns-preserved-in-Decode : goal.turns-preserved-in-Decode
 turns-preserved-in-Decode c =
+    let w = (goal.at.turns-preserved-in-Decode c).After-way_of-way in
     let u = c.rename-namehead.ensures in (
-      data_kept (goal.at.turns-preserved-in-Decode c).After-way_of-way,
+      data_kept w,
       settled (omega arith)
-          (goes (goal.at.turns-preserved-in-Decode c).After-way_of-way _ (decode_way_lem (going (goal.at.turns-preserved-in-Decode c).After-way_of-way) _ _ (decodes (goal.at.turns-preserved-in-Decode c).After-way_of-way c.in-Decode.is) c.accepted-decoded.ensures _ _ _ _ _ _ c.entry_for-n.ensures u.0 u.1 u.2 u.3 u.4)),
+          (goes w _ (decode_way_lem (going w) _ _ (decodes w c.in-Decode.is) c.accepted-decoded.ensures _ _ _ _ _ _ c.entry_for-n.ensures u.0 u.1 u.2 u.3 u.4)),
     )
 
 pub read-read-requires : goal.read-read-requires
 read-read-requires c =
-    (in_range_operation (here (goal.at.read-read-requires c).After-way_of-way) _ (in_range (going (goal.at.read-read-requires c).After-way_of-way)) (issues (goal.at.read-read-requires c).After-way_of-way c.in-Issue.is).there, values_long (goal.at.read-read-requires c).After-way_of-way)
+    let w = (goal.at.read-read-requires c).After-way_of-way in
+    (in_range_operation (here w) _ (in_range (going w)) (issues w c.in-Issue.is).there, values_long w)
 
 pub offset_bounds-entries-at-in-Issue : goal.offset_bounds-entries-at-in-Issue
 offset_bounds-entries-at-in-Issue c =
@@ -333,9 +337,10 @@ turns-smaller-in-Issue c =
 
 pub turns-preserved-in-Issue : goal.turns-preserved-in-Issue
 turns-preserved-in-Issue c =
-    let i = issues (goal.at.turns-preserved-in-Issue c).After-way_of-way c.in-Issue.is in (
-      data_kept (goal.at.turns-preserved-in-Issue c).After-way_of-way,
-      settled (undropped (goal.at.turns-preserved-in-Issue c).After-way_of-way) (goes (goal.at.turns-preserved-in-Issue c).After-way_of-way _ (issue_way_lem (going (goal.at.turns-preserved-in-Issue c).After-way_of-way) _ _ (at (goal.at.turns-preserved-in-Issue c).After-way_of-way) i.call i.accepted c.accepted-issued.ensures _ c.read-read.ensures)),
+    let w = (goal.at.turns-preserved-in-Issue c).After-way_of-way in
+    let i = issues w c.in-Issue.is in (
+      data_kept w,
+      settled (undropped w) (goes w _ (issue_way_lem (going w) _ _ (at w) i.call i.accepted c.accepted-issued.ensures _ c.read-read.ensures)),
     )
 
 pub older-init : goal.older-init
@@ -360,7 +365,8 @@ older-smaller c =
 
 pub is_store-found-requires : goal.is_store-found-requires
 is_store-found-requires c =
-    in_range_operation (here (goal.at.is_store-found-requires c).After-way_of-way) _ (in_range (going (goal.at.is_store-found-requires c).After-way_of-way)) (let l = c.older-test.true in let t = (loads (goal.at.is_store-found-requires c).After-way_of-way c.in-Load.is).there in omega arith)
+    let w = (goal.at.is_store-found-requires c).After-way_of-way in
+    in_range_operation (here w) _ (in_range (going w)) (let l = c.older-test.true in let t = (loads w c.in-Load.is).there in omega arith)
 
 pub older-preserved : goal.older-preserved
 older-preserved c =
@@ -383,15 +389,17 @@ turns-smaller-else-found c =
 
 pub turns-preserved-then-found : goal.turns-preserved-then-found
 turns-preserved-then-found c =
-    let l = loads (goal.at.turns-preserved-then-found c).After-way_of-way c.in-Load.is in (
-      data_kept (goal.at.turns-preserved-then-found c).After-way_of-way,
-      settled (undropped (goal.at.turns-preserved-then-found c).After-way_of-way)
-          (goes (goal.at.turns-preserved-then-found c).After-way_of-way _ (barred_way (going (goal.at.turns-preserved-then-found c).After-way_of-way) _ _ (issue (at (goal.at.turns-preserved-then-found c).After-way_of-way)) 15 l.call (l.barred (sym (seen (goal.at.turns-preserved-then-found c).After-older) ∙ c.if-found.true)) (eqb-false 15 0 refl) c.refused-barred.ensures)),
+    let w = (goal.at.turns-preserved-then-found c).After-way_of-way in
+    let l = loads w c.in-Load.is in (
+      data_kept w,
+      settled (undropped w)
+          (goes w _ (barred_way (going w) _ _ (issue (at w)) 15 l.call (l.barred (sym (seen (goal.at.turns-preserved-then-found c).After-older) ∙ c.if-found.true)) (eqb-false 15 0 refl) c.refused-barred.ensures)),
     )
 
 pub read-loaded-requires : goal.read-loaded-requires
 read-loaded-requires c =
-    (in_range_operation (here (goal.at.read-loaded-requires c).After-way_of-way) _ (in_range (going (goal.at.read-loaded-requires c).After-way_of-way)) (loads (goal.at.read-loaded-requires c).After-way_of-way c.in-Load.is).there, values_long (goal.at.read-loaded-requires c).After-way_of-way)
+    let w = (goal.at.read-loaded-requires c).After-way_of-way in
+    (in_range_operation (here w) _ (in_range (going w)) (loads w c.in-Load.is).there, values_long w)
 
 pub offset_bounds-entries-at-else-found : goal.offset_bounds-entries-at-else-found
 offset_bounds-entries-at-else-found c =
@@ -407,15 +415,17 @@ accepted-passed-requires c =
 
 pub turns-preserved-else-found : goal.turns-preserved-else-found
 turns-preserved-else-found c =
-    let l = loads (goal.at.turns-preserved-else-found c).After-way_of-way c.in-Load.is in (
-      data_kept (goal.at.turns-preserved-else-found c).After-way_of-way,
-      settled (undropped (goal.at.turns-preserved-else-found c).After-way_of-way)
-          (goes (goal.at.turns-preserved-else-found c).After-way_of-way _ (issue_way_lem (going (goal.at.turns-preserved-else-found c).After-way_of-way) _ _ (at (goal.at.turns-preserved-else-found c).After-way_of-way) l.call (l.accepted (sym (seen (goal.at.turns-preserved-else-found c).After-older) ∙ c.if-found.false)) c.accepted-passed.ensures _ c.read-loaded.ensures)),
+    let w = (goal.at.turns-preserved-else-found c).After-way_of-way in
+    let l = loads w c.in-Load.is in (
+      data_kept w,
+      settled (undropped w)
+          (goes w _ (issue_way_lem (going w) _ _ (at w) l.call (l.accepted (sym (seen (goal.at.turns-preserved-else-found c).After-older) ∙ c.if-found.false)) c.accepted-passed.ensures _ c.read-loaded.ensures)),
     )
 
 pub outcome-o-requires : goal.outcome-o-requires
 outcome-o-requires c =
-    in_range_operation (here (goal.at.outcome-o-requires c).After-way_of-way) _ (in_range (going (goal.at.outcome-o-requires c).After-way_of-way)) (told (goal.at.outcome-o-requires c).After-way_of-way Complete c.in-Complete.is).there
+    let w = (goal.at.outcome-o-requires c).After-way_of-way in
+    in_range_operation (here w) _ (in_range (going w)) (told w Complete c.in-Complete.is).there
 
 pub offset_bounds-entries-at-in-Stops : goal.offset_bounds-entries-at-in-Stops
 offset_bounds-entries-at-in-Stops c =
@@ -435,10 +445,11 @@ turns-smaller-in-Stops c =
 
 pub turns-preserved-in-Stops : goal.turns-preserved-in-Stops
 turns-preserved-in-Stops c =
-    let p = (goal.at.turns-preserved-in-Stops c).After-way_of-way in (
-      data_kept p,
-      settled (undropped p)
-          (goes p _ (stop_way (going p) _ _ (at p) (completes (goal.at.turns-preserved-in-Stops c).After-way_of-way c.in-Complete.is) (outcome (goal.at.turns-preserved-in-Stops c).After-ending_of-ending) (outcome_is (goal.at.turns-preserved-in-Stops c).After-ending_of-ending) (ended (goal.at.turns-preserved-in-Stops c).After-ending_of-ending Stops c.in-Stops.is) c.accepted-stopped.ensures _ c.stopped-ended.ensures)),
+    let w = (goal.at.turns-preserved-in-Stops c).After-way_of-way in
+    let o = (goal.at.turns-preserved-in-Stops c).After-ending_of-ending in (
+      data_kept w,
+      settled (undropped w)
+          (goes w _ (stop_way (going w) _ _ (at w) (completes w c.in-Complete.is) (outcome o) (outcome_is o) (ended o Stops c.in-Stops.is) c.accepted-stopped.ensures _ c.stopped-ended.ensures)),
     )
 
 pub offset_bounds-entries-at-in-WithoutDestination : goal.offset_bounds-entries-at-in-WithoutDestination
@@ -451,7 +462,8 @@ bounds-entries-at-in-WithoutDestination c =
 
 pub kept_after-kept-requires : goal.kept_after-kept-requires
 kept_after-kept-requires c =
-    ((completes (goal.at.kept_after-kept-requires c).After-way_of-way c.in-Complete.is).there, few (goal.at.kept_after-kept-requires c).After-way_of-way)
+    let w = (goal.at.kept_after-kept-requires c).After-way_of-way in
+    ((completes w c.in-Complete.is).there, few w)
 
 pub overflow_sub-count-in-WithoutDestination : goal.overflow_sub-count-in-WithoutDestination
 overflow_sub-count-in-WithoutDestination c =
@@ -463,21 +475,24 @@ overflow_cast-count-in-WithoutDestination c =
 
 pub accepted-finished-requires : goal.accepted-finished-requires
 accepted-finished-requires c =
-    (small_counts (goal.at.accepted-finished-requires c).After-way_of-way, omega arith, omega arith, let f = few (goal.at.accepted-finished-requires c).After-way_of-way in omega arith)
+    let w = (goal.at.accepted-finished-requires c).After-way_of-way in
+    (small_counts w, omega arith, omega arith, let f = few w in omega arith)
 
 pub turns-smaller-in-WithoutDestination : goal.turns-smaller-in-WithoutDestination
 turns-smaller-in-WithoutDestination c =
-    let t = some_left (goal.at.turns-smaller-in-WithoutDestination c).After-way_of-way in let f = few (goal.at.turns-smaller-in-WithoutDestination c).After-way_of-way in omega arith
+    let w = (goal.at.turns-smaller-in-WithoutDestination c).After-way_of-way in
+    let t = some_left w in let f = few w in omega arith
 
 pub turns-preserved-in-WithoutDestination : goal.turns-preserved-in-WithoutDestination
 turns-preserved-in-WithoutDestination c =
-    let p = (goal.at.turns-preserved-in-WithoutDestination c).After-way_of-way in
-    let s = ended (goal.at.turns-preserved-in-WithoutDestination c).After-ending_of-ending WithoutDestination c.in-WithoutDestination.is in (
-      data_kept p,
+    let w = (goal.at.turns-preserved-in-WithoutDestination c).After-way_of-way in
+    let o = (goal.at.turns-preserved-in-WithoutDestination c).After-ending_of-ending in
+    let s = ended o WithoutDestination c.in-WithoutDestination.is in (
+      data_kept w,
       record {
-        few = few p;
-        going = goes p _
-            (no_destination_way (going p) _ _ (at p) (completes (goal.at.turns-preserved-in-WithoutDestination c).After-way_of-way c.in-Complete.is) (outcome (goal.at.turns-preserved-in-WithoutDestination c).After-ending_of-ending) (outcome_is (goal.at.turns-preserved-in-WithoutDestination c).After-ending_of-ending) s.0 s.1 _ c.finished-done.ensures
+        few = few w;
+        going = goes w _
+            (no_destination_way (going w) _ _ (at w) (completes w c.in-Complete.is) (outcome o) (outcome_is o) s.0 s.1 _ c.finished-done.ensures
             _ c.fetch_after-fetch.ensures _ c.kept_after-kept.ensures.0 c.accepted-finished.ensures);
       },
     )
@@ -545,7 +560,8 @@ wake-preserved c =
 
 pub kept_after-kept-requires-in-Supplied : goal.kept_after-kept-requires-in-Supplied
 kept_after-kept-requires-in-Supplied c =
-    ((completes (goal.at.kept_after-kept-requires-in-Supplied c).After-way_of-way c.in-Complete.is).there, few (goal.at.kept_after-kept-requires-in-Supplied c).After-way_of-way)
+    let w = (goal.at.kept_after-kept-requires-in-Supplied c).After-way_of-way in
+    ((completes w c.in-Complete.is).there, few w)
 
 pub overflow_sub-count-in-Supplied : goal.overflow_sub-count-in-Supplied
 overflow_sub-count-in-Supplied c =
@@ -557,24 +573,27 @@ overflow_cast-count-in-Supplied c =
 
 pub accepted-learned-requires : goal.accepted-learned-requires
 accepted-learned-requires c =
-    (small_counts (goal.at.accepted-learned-requires c).After-way_of-way, omega arith, omega arith, let f = few (goal.at.accepted-learned-requires c).After-way_of-way in omega arith)
+    let w = (goal.at.accepted-learned-requires c).After-way_of-way in
+    (small_counts w, omega arith, omega arith, let f = few w in omega arith)
 
 pub turns-smaller-in-Supplied : goal.turns-smaller-in-Supplied
 turns-smaller-in-Supplied c =
-    let t = some_left (goal.at.turns-smaller-in-Supplied c).After-way_of-way in let f = few (goal.at.turns-smaller-in-Supplied c).After-way_of-way in omega arith
+    let w = (goal.at.turns-smaller-in-Supplied c).After-way_of-way in
+    let t = some_left w in let f = few w in omega arith
 
 pub turns-preserved-in-Supplied : goal.turns-preserved-in-Supplied
 turns-preserved-in-Supplied c =
-    let p = (goal.at.turns-preserved-in-Supplied c).After-way_of-way in
-    let s = ended (goal.at.turns-preserved-in-Supplied c).After-ending_of-ending Supplied c.in-Supplied.is in
+    let w = (goal.at.turns-preserved-in-Supplied c).After-way_of-way in
+    let o = (goal.at.turns-preserved-in-Supplied c).After-ending_of-ending in
+    let s = ended o Supplied c.in-Supplied.is in
     let u = c.learn.ensures in
     let l = c.wake in
-    let end : l.k ≡ p.turns.count = let x = l.invariant.0 in let y = c.wake-test.false in omega arith in (
-      data_kept p,
+    let end : l.k ≡ w.turns.count = let x = l.invariant.0 in let y = c.wake-test.false in omega arith in (
+      data_kept w,
       record {
-        few = few p;
-        going = goes p _
-            (supply_way (going p) _ _ (at p) (completes (goal.at.turns-preserved-in-Supplied c).After-way_of-way c.in-Complete.is) (outcome (goal.at.turns-preserved-in-Supplied c).After-ending_of-ending) (outcome_is (goal.at.turns-preserved-in-Supplied c).After-ending_of-ending) s.0 s.1 s.2 _ c.finished-done-in-Supplied.ensures _ _ _ _ _ _ _
+        few = few w;
+        going = goes w _
+            (supply_way (going w) _ _ (at w) (completes w c.in-Complete.is) (outcome o) (outcome_is o) s.0 s.1 s.2 _ c.finished-done-in-Supplied.ensures _ _ _ _ _ _ _
             (change_end _ _ _ _ _ l.invariant.1 end) u.0 u.1 u.2 c.store_value.ensures c.take-registerhead.ensures.0 c.take-registerhead.ensures.1
             _ c.fetch_after-fetch-in-Supplied.ensures _ c.kept_after-kept-in-Supplied.ensures.0 c.accepted-learned.ensures);
       },
@@ -586,10 +605,10 @@ overflow_sub-k c =
 
 pub search-init : goal.search-init
 search-init c =
-    let p = (goal.at.search-init c).After-way_of-way in
-    let t = (completes (goal.at.search-init c).After-way_of-way c.in-Complete.is).there in
-    let same : p.turns.count - 1 - at p ≡ p.turns.count - suc (at p) = omega arith in
-    (omega arith, omega arith, ap (λ (n : ℕ). victim_among n (here p).physical (here p).entries (at p)) same)
+    let w = (goal.at.search-init c).After-way_of-way in
+    let t = (completes w c.in-Complete.is).there in
+    let same : w.turns.count - 1 - at w ≡ w.turns.count - suc (at w) = omega arith in
+    (omega arith, omega arith, ap (λ (n : ℕ). victim_among n (here w).physical (here w).entries (at w)) same)
 
 pub offset_bounds-entries-k-in-search : goal.offset_bounds-entries-k-in-search
 offset_bounds-entries-k-in-search c =
@@ -633,28 +652,33 @@ turns-smaller-then-victim-at c =
 
 pub turns-preserved-then-victim-at : goal.turns-preserved-then-victim-at
 turns-preserved-then-victim-at c =
-    let p = (goal.at.turns-preserved-then-victim-at c).After-way_of-way in
-    let s = ended (goal.at.turns-preserved-then-victim-at c).After-ending_of-ending Steals c.in-Steals.is in (
-      data_kept p,
-      settled (undropped p)
-          (goes p _ (unsupplied_way (going p) _ _ (at p) (completes (goal.at.turns-preserved-then-victim-at c).After-way_of-way c.in-Complete.is) (outcome (goal.at.turns-preserved-then-victim-at c).After-ending_of-ending) (outcome_is (goal.at.turns-preserved-then-victim-at c).After-ending_of-ending) s.0 s.1 s.2 (sym (found (goal.at.turns-preserved-then-victim-at c).Joined-k-at) ∙ c.if-victim-at.true) c.refused-barred-then-victim-at.ensures)),
+    let w = (goal.at.turns-preserved-then-victim-at c).After-way_of-way in
+    let o = (goal.at.turns-preserved-then-victim-at c).After-ending_of-ending in
+    let s = ended o Steals c.in-Steals.is in (
+      data_kept w,
+      settled (undropped w)
+          (goes w _ (unsupplied_way (going w) _ _ (at w) (completes w c.in-Complete.is) (outcome o) (outcome_is o) s.0 s.1 s.2 (sym (found (goal.at.turns-preserved-then-victim-at c).Joined-k-at) ∙ c.if-victim-at.true) c.refused-barred-then-victim-at.ensures)),
     )
 
 pub offset_bounds-entries-victim : goal.offset_bounds-entries-victim
 offset_bounds-entries-victim c =
-    let v = victim_there (goal.at.offset_bounds-entries-victim c).Joined-k-at (completes (goal.at.offset_bounds-entries-victim c).After-way_of-way c.in-Complete.is).there in let f = few (goal.at.offset_bounds-entries-victim c).After-way_of-way in omega arith
+    let w = (goal.at.offset_bounds-entries-victim c).After-way_of-way in
+    let v = victim_there (goal.at.offset_bounds-entries-victim c).Joined-k-at (completes w c.in-Complete.is).there in let f = few w in omega arith
 
 pub bounds-entries-victim : goal.bounds-entries-victim
 bounds-entries-victim c =
-    let v = victim_there (goal.at.bounds-entries-victim c).Joined-k-at (completes (goal.at.bounds-entries-victim c).After-way_of-way c.in-Complete.is).there in let f = few (goal.at.bounds-entries-victim c).After-way_of-way in omega arith
+    let w = (goal.at.bounds-entries-victim c).After-way_of-way in
+    let v = victim_there (goal.at.bounds-entries-victim c).Joined-k-at (completes w c.in-Complete.is).there in let f = few w in omega arith
 
 pub offset_bounds-entries-victim-else-victim-at : goal.offset_bounds-entries-victim-else-victim-at
 offset_bounds-entries-victim-else-victim-at c =
-    let v = victim_there (goal.at.offset_bounds-entries-victim-else-victim-at c).Joined-k-at (completes (goal.at.offset_bounds-entries-victim-else-victim-at c).After-way_of-way c.in-Complete.is).there in let f = few (goal.at.offset_bounds-entries-victim-else-victim-at c).After-way_of-way in omega arith
+    let w = (goal.at.offset_bounds-entries-victim-else-victim-at c).After-way_of-way in
+    let v = victim_there (goal.at.offset_bounds-entries-victim-else-victim-at c).Joined-k-at (completes w c.in-Complete.is).there in let f = few w in omega arith
 
 pub bounds-entries-victim-else-victim-at : goal.bounds-entries-victim-else-victim-at
 bounds-entries-victim-else-victim-at c =
-    let v = victim_there (goal.at.bounds-entries-victim-else-victim-at c).Joined-k-at (completes (goal.at.bounds-entries-victim-else-victim-at c).After-way_of-way c.in-Complete.is).there in let f = few (goal.at.bounds-entries-victim-else-victim-at c).After-way_of-way in omega arith
+    let w = (goal.at.bounds-entries-victim-else-victim-at c).After-way_of-way in
+    let v = victim_there (goal.at.bounds-entries-victim-else-victim-at c).Joined-k-at (completes w c.in-Complete.is).there in let f = few w in omega arith
 
 pub learn-requires-else-victim-at : goal.learn-requires-else-victim-at
 learn-requires-else-victim-at c =
@@ -670,9 +694,10 @@ bounds-entries-at-else-victim-at c =
 
 pub learn-requires-else-victim-at-2 : goal.learn-requires-else-victim-at-2
 learn-requires-else-victim-at-2 c =
-    let l = tables (goal.at.learn-requires-else-victim-at-2 c).After-way_of-way in
+    let w = (goal.at.learn-requires-else-victim-at-2 c).After-way_of-way in
+    let l = tables w in
     let u = c.learn-else-victim-at.ensures in
-    let m : Core = here (goal.at.learn-requires-else-victim-at-2 c).After-way_of-way in
+    let m : Core = here w in
     let owner : Entry = entry_at m c.if-k-at.victim in
     let shown : Bool = shows m owner.destination owner.name in
     (l.mapname, ap length u.0 ∙ learnt_length shown m.mapregister owner.destination 0 ∙ l.mapregister, ap length u.1 ∙ learnt_length shown m.mapvalid owner.destination false ∙ l.mapvalid, ap length u.2 ∙ store_length _ _ _ ∙ l.physical)
@@ -717,7 +742,8 @@ pass-preserved c =
 
 pub kept_after-kept-requires-else-victim-at : goal.kept_after-kept-requires-else-victim-at
 kept_after-kept-requires-else-victim-at c =
-    ((completes (goal.at.kept_after-kept-requires-else-victim-at c).After-way_of-way c.in-Complete.is).there, few (goal.at.kept_after-kept-requires-else-victim-at c).After-way_of-way)
+    let w = (goal.at.kept_after-kept-requires-else-victim-at c).After-way_of-way in
+    ((completes w c.in-Complete.is).there, few w)
 
 pub overflow_sub-count-else-victim-at : goal.overflow_sub-count-else-victim-at
 overflow_sub-count-else-victim-at c =
@@ -729,25 +755,28 @@ overflow_cast-count-else-victim-at c =
 
 pub accepted-stolen-requires : goal.accepted-stolen-requires
 accepted-stolen-requires c =
-    (small_counts (goal.at.accepted-stolen-requires c).After-way_of-way, omega arith, omega arith, let f = few (goal.at.accepted-stolen-requires c).After-way_of-way in omega arith)
+    let w = (goal.at.accepted-stolen-requires c).After-way_of-way in
+    (small_counts w, omega arith, omega arith, let f = few w in omega arith)
 
 pub turns-smaller-else-victim-at : goal.turns-smaller-else-victim-at
 turns-smaller-else-victim-at c =
-    let t = some_left (goal.at.turns-smaller-else-victim-at c).After-way_of-way in let f = few (goal.at.turns-smaller-else-victim-at c).After-way_of-way in omega arith
+    let w = (goal.at.turns-smaller-else-victim-at c).After-way_of-way in
+    let t = some_left w in let f = few w in omega arith
 
 pub turns-preserved-else-victim-at : goal.turns-preserved-else-victim-at
 turns-preserved-else-victim-at c =
-    let p = (goal.at.turns-preserved-else-victim-at c).After-way_of-way in
-    let s = ended (goal.at.turns-preserved-else-victim-at c).After-ending_of-ending Steals c.in-Steals.is in
+    let w = (goal.at.turns-preserved-else-victim-at c).After-way_of-way in
+    let o = (goal.at.turns-preserved-else-victim-at c).After-ending_of-ending in
+    let s = ended o Steals c.in-Steals.is in
     let lost = c.learn-else-victim-at.ensures in
     let new = c.learn-else-victim-at-2.ensures in
     let l = c.pass in
-    let end : l.j ≡ p.turns.count = let x = l.invariant.0 in let y = c.pass-test.false in omega arith in (
-      data_kept p,
+    let end : l.j ≡ w.turns.count = let x = l.invariant.0 in let y = c.pass-test.false in omega arith in (
+      data_kept w,
       record {
-        few = few p;
-        going = goes p _
-            (theft_way (going p) _ _ (at p) (completes (goal.at.turns-preserved-else-victim-at c).After-way_of-way c.in-Complete.is) (outcome (goal.at.turns-preserved-else-victim-at c).After-ending_of-ending) (outcome_is (goal.at.turns-preserved-else-victim-at c).After-ending_of-ending) s.0 s.1 s.2 _ (found (goal.at.turns-preserved-else-victim-at c).Joined-k-at) c.if-victim-at.false _ c.held-register.ensures
+        few = few w;
+        going = goes w _
+            (theft_way (going w) _ _ (at w) (completes w c.in-Complete.is) (outcome o) (outcome_is o) s.0 s.1 s.2 _ (found (goal.at.turns-preserved-else-victim-at c).Joined-k-at) c.if-victim-at.false _ c.held-register.ensures
             _ _ c.waiting-again.ensures c.finished-done-else-victim-at.ensures _ _ _ _ _ _ _ _
             (change_end _ _ _ _ _ l.invariant.1 end) lost.0 lost.1 lost.2 new.0 new.1 new.2 c.store_value-else-victim-at.ensures
             _ c.fetch_after-fetch-else-victim-at.ensures _ c.kept_after-kept-else-victim-at.ensures.0 c.accepted-stolen.ensures);
@@ -756,7 +785,8 @@ turns-preserved-else-victim-at c =
 
 pub store-requires : goal.store-requires
 store-requires c =
-    in_range_operation (here (goal.at.store-requires c).After-way_of-way) _ (in_range (going (goal.at.store-requires c).After-way_of-way)) (oldest_there (goal.at.store-requires c).After-way_of-way c.in-Commit.is)
+    let w = (goal.at.store-requires c).After-way_of-way in
+    in_range_operation (here w) _ (in_range (going w)) (oldest_there w c.in-Commit.is)
 
 pub retire-freed-requires : goal.retire-freed-requires
 retire-freed-requires c =
@@ -800,18 +830,21 @@ shift-smaller c =
 
 pub shift-preserved : goal.shift-preserved
 shift-preserved c =
+    let w = (goal.at.shift-preserved c).After-way_of-way in
     let l = c.shift in
     let t = c.shift-test.true in
-    let room = (tables (goal.at.shift-preserved c).After-way_of-way).entries in
-    let f = few (goal.at.shift-preserved c).After-way_of-way in (omega arith, shift_step l.j _ _ (omega arith) l.invariant.1)
+    let room = (tables w).entries in
+    let f = few w in (omega arith, shift_step l.j _ _ (omega arith) l.invariant.1)
 
 pub offset_bounds-entries-count-in-Commit : goal.offset_bounds-entries-count-in-Commit
 offset_bounds-entries-count-in-Commit c =
-    let f = few (goal.at.offset_bounds-entries-count-in-Commit c).After-way_of-way in let t = oldest_there (goal.at.offset_bounds-entries-count-in-Commit c).After-way_of-way c.in-Commit.is in omega arith
+    let w = (goal.at.offset_bounds-entries-count-in-Commit c).After-way_of-way in
+    let f = few w in let t = oldest_there w c.in-Commit.is in omega arith
 
 pub bounds-entries-count-in-Commit : goal.bounds-entries-count-in-Commit
 bounds-entries-count-in-Commit c =
-    let f = few (goal.at.bounds-entries-count-in-Commit c).After-way_of-way in let t = oldest_there (goal.at.bounds-entries-count-in-Commit c).After-way_of-way c.in-Commit.is in omega arith
+    let w = (goal.at.bounds-entries-count-in-Commit c).After-way_of-way in
+    let f = few w in let t = oldest_there w c.in-Commit.is in omega arith
 
 pub accepted-retired-requires : goal.accepted-retired-requires
 accepted-retired-requires c =
@@ -823,15 +856,16 @@ turns-smaller-in-Commit c =
 
 pub turns-preserved-in-Commit : goal.turns-preserved-in-Commit
 turns-preserved-in-Commit c =
-    let t = commits (goal.at.turns-preserved-in-Commit c).After-way_of-way c.in-Commit.is in
+    let w = (goal.at.turns-preserved-in-Commit c).After-way_of-way in
+    let t = commits w c.in-Commit.is in
     let u = c.retire-freed.ensures in
     let l = c.shift in
     let end : l.j ≡ c.turns.count - 1 = let x = l.invariant.0 in let y = c.shift-test.false in omega arith in (
-      search (rules, data_kept (goal.at.turns-preserved-in-Commit c).After-way_of-way),
+      search (rules, data_kept w),
       settled (omega arith)
-          (goes (goal.at.turns-preserved-in-Commit c).After-way_of-way _
-          (commit_way_lem (going (goal.at.turns-preserved-in-Commit c).After-way_of-way) _ _ (at (goal.at.turns-preserved-in-Commit c).After-way_of-way) t.0 t.1 c.accepted-retired.ensures _ c.store.ensures _
-          (retired_here (here (goal.at.turns-preserved-in-Commit c).After-way_of-way) (entry (goal.at.turns-preserved-in-Commit c).After-way_of-way) _ _ _ _ _ _ _ t.0.there (roomy (going (goal.at.turns-preserved-in-Commit c).After-way_of-way)) (ap (entry_at (here (goal.at.turns-preserved-in-Commit c).After-way_of-way)) t.0.oldest) u.3 u.1 u.0 u.4 u.2 (l.invariant.1 ∙ ap (λ (n : ℕ). shifted n c.turns.entries) end) c.empty-empty-in-Commit.ensures))),
+          (goes w _
+          (commit_way_lem (going w) _ _ (at w) t.0 t.1 c.accepted-retired.ensures _ c.store.ensures _
+          (retired_here (here w) (entry w) _ _ _ _ _ _ _ t.0.there (roomy (going w)) (ap (entry_at (here w)) t.0.oldest) u.3 u.1 u.0 u.4 u.2 (l.invariant.1 ∙ ap (λ (n : ℕ). shifted n c.turns.entries) end) c.empty-empty-in-Commit.ensures))),
     )
 
 pub overflow_sub-count-in-Halt : goal.overflow_sub-count-in-Halt
@@ -844,16 +878,19 @@ overflow_cast-count-in-Halt c =
 
 pub accepted-halted-requires : goal.accepted-halted-requires
 accepted-halted-requires c =
-    (small_counts (goal.at.accepted-halted-requires c).After-way_of-way, omega arith, omega arith, let f = few (goal.at.accepted-halted-requires c).After-way_of-way in omega arith)
+    let w = (goal.at.accepted-halted-requires c).After-way_of-way in
+    (small_counts w, omega arith, omega arith, let f = few w in omega arith)
 
 pub turns-smaller-in-Halt : goal.turns-smaller-in-Halt
 turns-smaller-in-Halt c =
-    let t = some_left (goal.at.turns-smaller-in-Halt c).After-way_of-way in let f = few (goal.at.turns-smaller-in-Halt c).After-way_of-way in omega arith
+    let w = (goal.at.turns-smaller-in-Halt c).After-way_of-way in
+    let t = some_left w in let f = few w in omega arith
 
 pub turns-preserved-in-Halt : goal.turns-preserved-in-Halt
 turns-preserved-in-Halt c =
-    let h = halts (goal.at.turns-preserved-in-Halt c).After-way_of-way c.in-Halt.is in
-    (data_kept (goal.at.turns-preserved-in-Halt c).After-way_of-way, record { few = few (goal.at.turns-preserved-in-Halt c).After-way_of-way; going = goes (goal.at.turns-preserved-in-Halt c).After-way_of-way _ (halt_way (going (goal.at.turns-preserved-in-Halt c).After-way_of-way) _ _ (at (goal.at.turns-preserved-in-Halt c).After-way_of-way) h.0 h.1 c.accepted-halted.ensures) })
+    let w = (goal.at.turns-preserved-in-Halt c).After-way_of-way in
+    let h = halts w c.in-Halt.is in
+    (data_kept w, record { few = few w; going = goes w _ (halt_way (going w) _ _ (at w) h.0 h.1 c.accepted-halted.ensures) })
 
 pub refused-refused-requires : goal.refused-refused-requires
 refused-refused-requires c =
@@ -864,7 +901,8 @@ turns-smaller c =
     let t = some_left (goal.at.turns-smaller c).After-way_of-way in omega arith
 
 pub turns-preserved : goal.turns-preserved
-turns-preserved c = (
-  data_kept (goal.at.turns-preserved c).After-way_of-way,
-  settled (undropped (goal.at.turns-preserved c).After-way_of-way) (goes (goal.at.turns-preserved c).After-way_of-way _ (refused_way (going (goal.at.turns-preserved c).After-way_of-way) _ _ (told (goal.at.turns-preserved c).After-way_of-way Refused c.in-Refused.is).some c.refused-refused.ensures)),
-)
+turns-preserved c =
+    let w = (goal.at.turns-preserved c).After-way_of-way in (
+      data_kept w,
+      settled (undropped w) (goes w _ (refused_way (going w) _ _ (told w Refused c.in-Refused.is).some c.refused-refused.ensures)),
+    )
