@@ -35,37 +35,44 @@ module _ (p : After-read) where
 
 pub returns-then-not-has_word : goal.returns-then-not-has_word
 returns-then-not-has_word c =
-    let nothing = fetch_outside (program (goal.at.returns-then-not-has_word c).Start) (address (goal.at.returns-then-not-has_word c).Start) (sym c.has_word.ensures ∙ c.if-not-has_word.true) in
-    c.without_instruction.ensures ∙ ap (ended_entry (address (goal.at.returns-then-not-has_word c).Start) none) c.outside.ensures ∙ entry_none (m (goal.at.returns-then-not-has_word c).Start) (fetch_at (program (goal.at.returns-then-not-has_word c).Start) (address (goal.at.returns-then-not-has_word c).Start)) c.args.guess outside nothing (λ z. omega arith)
+    let s = (goal.at.returns-then-not-has_word c).Start in
+    let nothing = fetch_outside (program s) (address s) (sym c.has_word.ensures ∙ c.if-not-has_word.true) in
+    c.without_instruction.ensures ∙ ap (ended_entry (address s) none) c.outside.ensures ∙ entry_none (m s) (fetch_at (program s) (address s)) c.args.guess outside nothing (λ z. omega arith)
 
 pub word_at-word-requires : goal.word_at-word-requires
 word_at-word-requires c = sym c.has_word.ensures ∙ c.if-not-has_word.false
 
 pub returns-in_default : goal.returns-in_default
 returns-in_default c =
+    let p = (goal.at.returns-in_default c).After-read in
     let s = (goal.at.returns-in_default c).Start in
-    let nothing = fetch_illegal (program s) (address s) (there (goal.at.returns-in_default c).After-read) (reads (goal.at.returns-in_default c).After-read ∙ ap numbers_of c.in_default.is) in
+    let nothing = fetch_illegal (program s) (address s) (there p) (reads p ∙ ap numbers_of c.in_default.is) in
     c.without_instruction-in_default.ensures ∙ ap (ended_entry (address s) none) c.illegal.ensures ∙ entry_none (m s) (fetch_at (program s) (address s)) s.args.guess (of_reading illegal).stop nothing (λ z. omega arith)
 
 pub stop_at_once-stop-requires : goal.stop_at_once-stop-requires
 stop_at_once-stop-requires c =
-    (found_small (program ((goal.at.stop_at_once-stop-requires c).Start)) (address ((goal.at.stop_at_once-stop-requires c).Start)) _ (fetch_legal (program ((goal.at.stop_at_once-stop-requires c).Start)) (address ((goal.at.stop_at_once-stop-requires c).Start)) (there (goal.at.stop_at_once-stop-requires c).After-read) _ (reads (goal.at.stop_at_once-stop-requires c).After-read ∙ ap numbers_of c.in-Legal.is))).operation
+    let p = (goal.at.stop_at_once-stop-requires c).After-read in
+    let s = (goal.at.stop_at_once-stop-requires c).Start in
+    (found_small (program s) (address s) _ (fetch_legal (program s) (address s) (there p) _ (reads p ∙ ap numbers_of c.in-Legal.is))).operation
 
 pub returns-then-stop-ne0 : goal.returns-then-stop-ne0
 returns-then-stop-ne0 c =
+    let p = (goal.at.returns-then-stop-ne0 c).After-read in
     let s = (goal.at.returns-then-stop-ne0 c).Start in
-    let found = fetch_legal (program s) (address s) (there (goal.at.returns-then-stop-ne0 c).After-read) _ (reads (goal.at.returns-then-stop-ne0 c).After-read ∙ ap numbers_of c.in-Legal.is) in
+    let found = fetch_legal (program s) (address s) (there p) _ (reads p ∙ ap numbers_of c.in-Legal.is) in
     let once = c.stop_at_once-stop.ensures in
     c.ended.ensures ∙ ap (ended_entry (address s) _) once ∙ entry_at_once (m s) (fetch_at (program s) (address s)) s.args.guess _ found (λ z. c.if-stop-ne0.true (ap (λ (x : Stop). x.cause) once ∙ z))
 
 pub started-requires : goal.started-requires
 started-requires c =
+    let p = (goal.at.started-requires c).After-read in
     let s = (goal.at.started-requires c).Start in
-    let found = fetch_legal (program s) (address s) (there (goal.at.started-requires c).After-read) _ (reads (goal.at.started-requires c).After-read ∙ ap numbers_of c.in-Legal.is) in
+    let found = fetch_legal (program s) (address s) (there p) _ (reads p ∙ ap numbers_of c.in-Legal.is) in
     ((found_small (program s) (address s) _ found).operation, s.requires.0, s.requires.1, s.requires.2)
 
 pub returns : goal.returns
 returns c =
+    let p = (goal.at.returns c).After-read in
     let s = (goal.at.returns c).Start in
-    let found = fetch_legal (program s) (address s) (there (goal.at.returns c).After-read) _ (reads (goal.at.returns c).After-read ∙ ap numbers_of c.in-Legal.is) in
+    let found = fetch_legal (program s) (address s) (there p) _ (reads p ∙ ap numbers_of c.in-Legal.is) in
     c.started.ensures ∙ entry_waits (m s) (fetch_at (program s) (address s)) s.args.guess _ found (ap (λ (x : Stop). x.cause) (sym c.stop_at_once-stop.ensures) ∙ c.if-stop-ne0.false)

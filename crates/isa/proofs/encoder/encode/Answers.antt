@@ -46,4 +46,5 @@ returns-else-accepts c =
 
 pub returns-else-fit : goal.returns-else-fit
 returns-else-fit c =
-    answer_refused (given (goal.at.returns-else-fit c).Start) (not_named (given (goal.at.returns-else-fit c).Start) (sym c.fit.ensures ∙ c.if-fit.false))
+    let s = (goal.at.returns-else-fit c).Start in
+    answer_refused (given s) (not_named (given s) (sym c.fit.ensures ∙ c.if-fit.false))

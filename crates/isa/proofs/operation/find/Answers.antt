@@ -43,8 +43,9 @@ loop-operation-init c =
 
 pub returns-then-fixed_part-fixed : goal.returns-then-fixed_part-fixed
 returns-then-fixed_part-fixed c =
+    let p = (goal.at.returns-then-fixed_part-fixed c).After-fixed in
     let h : c.loop-operation.operation ≤ last = omega arith in
-    (sym (c.loop-operation.invariant.2 ∙ hit c.args.word c.loop-operation.operation h (sym (part (goal.at.returns-then-fixed_part-fixed c).After-fixed) ∙ c.if-fixed_part-fixed.true ∙ bits (goal.at.returns-then-fixed_part-fixed c).After-fixed)), omega arith)
+    (sym (c.loop-operation.invariant.2 ∙ hit c.args.word c.loop-operation.operation h (sym (part p) ∙ c.if-fixed_part-fixed.true ∙ bits p)), omega arith)
 
 pub loop-operation-smaller : goal.loop-operation-smaller
 loop-operation-smaller c =
@@ -52,8 +53,9 @@ loop-operation-smaller c =
 
 pub loop-operation-preserved : goal.loop-operation-preserved
 loop-operation-preserved c =
+    let p = (goal.at.loop-operation-preserved c).After-fixed in
     let h : c.loop-operation.operation ≤ last = omega arith in
-    (search rules, search rules, c.loop-operation.invariant.2 ∙ miss c.args.word c.loop-operation.operation h (λ e. c.if-fixed_part-fixed.false (part (goal.at.loop-operation-preserved c).After-fixed ∙ e ∙ sym (bits (goal.at.loop-operation-preserved c).After-fixed))))
+    (search rules, search rules, c.loop-operation.invariant.2 ∙ miss c.args.word c.loop-operation.operation h (λ e. c.if-fixed_part-fixed.false (part p ∙ e ∙ sym (bits p))))
 
 pub returns : goal.returns
 returns c =

@@ -31,8 +31,10 @@ word_at-word-requires c = sym c.has_word.ensures ∙ c.if-not-has_word.false
 
 pub returns-in_default : goal.returns-in_default
 returns-in_default c =
-    ap no_instruction c.illegal.ensures ∙ fetch_illegal (program (goal.at.returns-in_default c).After-read) (address (goal.at.returns-in_default c).After-read) (there (goal.at.returns-in_default c).After-read) (reads (goal.at.returns-in_default c).After-read ∙ ap numbers_of c.in_default.is)
+    let p = (goal.at.returns-in_default c).After-read in
+    ap no_instruction c.illegal.ensures ∙ fetch_illegal (program p) (address p) (there p) (reads p ∙ ap numbers_of c.in_default.is)
 
 pub returns : goal.returns
 returns c =
-    fetch_legal (program (goal.at.returns c).After-read) (address (goal.at.returns c).After-read) (there (goal.at.returns c).After-read) c.in-Legal.i (reads (goal.at.returns c).After-read ∙ ap numbers_of c.in-Legal.is)
+    let p = (goal.at.returns c).After-read in
+    fetch_legal (program p) (address p) (there p) c.in-Legal.i (reads p ∙ ap numbers_of c.in-Legal.is)

@@ -85,14 +85,16 @@ module _ (p : After-perform-outcome) where
 
 pub returns-then-stop-eq0 : goal.returns-then-stop-eq0
 returns-then-stop-eq0 c =
+    let p = (goal.at.returns-then-stop-eq0 c).After-perform-outcome in
     let a = c.args in
     let s = state a.registers.now a.address a.«data».now in
     let d = c.destination_of.ensures in
-    step_made a.i s (first (goal.at.returns-then-stop-eq0 c).After-perform-outcome) c.read-operand.result c.second_by-second.result c.perform-outcome.result (first_is (goal.at.returns-then-stop-eq0 c).After-perform-outcome) (operand_is (goal.at.returns-then-stop-eq0 c).After-perform-outcome) (second_is (goal.at.returns-then-stop-eq0 c).After-perform-outcome) (outcome_is (goal.at.returns-then-stop-eq0 c).After-perform-outcome) c.if-stop-eq0.true _ _
-    (c.write.ensures ∙ ap (λ (r : ℕ). write_register a.registers.now r c.perform-outcome.result.result) d) (c.store_by.ensures ∙ stored_is (goal.at.returns-then-stop-eq0 c).After-perform-outcome)
+    step_made a.i s (first p) c.read-operand.result c.second_by-second.result c.perform-outcome.result (first_is p) (operand_is p) (second_is p) (outcome_is p) c.if-stop-eq0.true _ _
+    (c.write.ensures ∙ ap (λ (r : ℕ). write_register a.registers.now r c.perform-outcome.result.result) d) (c.store_by.ensures ∙ stored_is p)
 
 pub returns-else-stop-eq0 : goal.returns-else-stop-eq0
 returns-else-stop-eq0 c =
+    let p = (goal.at.returns-else-stop-eq0 c).After-perform-outcome in
     let a = c.args in
     let s = state a.registers.now a.address a.«data».now in
-    step_not_made a.i s (first (goal.at.returns-else-stop-eq0 c).After-perform-outcome) c.read-operand.result c.second_by-second.result c.perform-outcome.result (first_is (goal.at.returns-else-stop-eq0 c).After-perform-outcome) (operand_is (goal.at.returns-else-stop-eq0 c).After-perform-outcome) (second_is (goal.at.returns-else-stop-eq0 c).After-perform-outcome) (outcome_is (goal.at.returns-else-stop-eq0 c).After-perform-outcome) c.if-stop-eq0.false
+    step_not_made a.i s (first p) c.read-operand.result c.second_by-second.result c.perform-outcome.result (first_is p) (operand_is p) (second_is p) (outcome_is p) c.if-stop-eq0.false

@@ -32,8 +32,9 @@ returns-then-s-self c =
 
 pub tables_in_range-requires : goal.tables_in_range-requires
 tables_in_range-requires c =
+    let s = (goal.at.tables_in_range-requires c).Start in
     let z = setup_sizes c.args.self.setup (sym c.setup_in_range.ensures ∙ c.if-not-setup_in_range.false) in
-    (z.window_to, z.registers_to, registerlink_long (goal.at.tables_in_range-requires c).Start, namelink_long (goal.at.tables_in_range-requires c).Start, physical_long (goal.at.tables_in_range-requires c).Start, mapname_long (goal.at.tables_in_range-requires c).Start, mapregister_long (goal.at.tables_in_range-requires c).Start)
+    (z.window_to, z.registers_to, registerlink_long s, namelink_long s, physical_long s, mapname_long s, mapregister_long s)
 
 pub entries_in_range-requires : goal.entries_in_range-requires
 entries_in_range-requires c =

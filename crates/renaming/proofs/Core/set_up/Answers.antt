@@ -38,7 +38,8 @@ overflow_cast-bytes c =
 
 pub fresh-requires : goal.fresh-requires
 fresh-requires c =
-    ((sizes (goal.at.fresh-requires c).Else-number-ne0).window_to, (sizes (goal.at.fresh-requires c).Else-number-ne0).registers_to)
+    let p = (goal.at.fresh-requires c).Else-number-ne0 in
+    ((sizes p).window_to, (sizes p).registers_to)
 
 pub returns : goal.returns
 returns c =
