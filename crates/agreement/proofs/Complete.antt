@@ -1,4 +1,4 @@
--- Completion at its entry: the outcome of the values read is that of the in_order step.
+-- Completion at its entry: the outcome of the values read is that of the in-order step.
 use Prim.Native.Nat.{ℕ, ◌<◌}
 use mathlib.Core.Path.{◌≡◌, refl, ap, sym, ◌∙◌}
 use mathlib.Core.Logic.{◌≢◌}
