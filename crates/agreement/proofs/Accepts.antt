@@ -24,7 +24,7 @@ use Rattle.completing.specs.Complete.{outcome_at, needs_register, none_free, com
 use Rattle.stealing.specs.Steal.{victim_of, no_victim}
 use Rattle.committing.specs.Commit.{commit_refusal, commit_by, commit_of}
 use Rattle.renaming.specs.declared.Core.{Core}
-use Rattle.renaming.specs.declared.Answer.{Answer}
+use Rattle.renaming.specs.Answer.{Answer}
 use Rattle.window.specs.Calls.{made_by, call_of}
 use Rattle.window.specs.declared.Call.TheVariants.{Decode as decode, Issue as issue, Complete as complete, Commit as commit}
 use Rattle.agreement.proofs.Refusals.{first_none, empty_none, in_turn_none, no_some}
@@ -87,7 +87,7 @@ module _ (program memory : List ℕ) (m : Core) (lent : lent_refusal m program m
 pub data Supplied (m : Core) (i : ℕ) : Type 0 where
   stopping : ((outcome_at m i).stop.cause ≡ 0 → ⊥) → Supplied m i
   needless : (entry_at m i).destination ≡ 0 → Supplied m i
-  free : (m.registerhead ≡ 0 → ⊥) → Supplied m i
+  free : (m.free_registers.head ≡ 0 → ⊥) → Supplied m i
   younger : (j : ℕ) → i < j → j < m.count → (held m.physical (entry_at m j) ≡ 0 → ⊥) → Supplied m i
 
 pub and_none : (a b : Bool) → b ≡ false → a && b ≡ false
@@ -102,5 +102,5 @@ supplied_none m i (stopping h) =
     none_and (needs_register m i && none_free m) (no_victim m i) (none_and (needs_register m i) (none_free m) (and_none (not (eqb (entry_at m i).destination 0)) _ (ne_eqb (outcome_at m i).stop.cause 0 h)))
 supplied_none m i (needless h) =
     none_and (needs_register m i && none_free m) (no_victim m i) (none_and (needs_register m i) (none_free m) (none_and (not (eqb (entry_at m i).destination 0)) _ (no_some (entry_at m i).destination h)))
-supplied_none m i (free h) = none_and (needs_register m i && none_free m) (no_victim m i) (and_none (needs_register m i) (none_free m) (ne_eqb m.registerhead 0 h))
+supplied_none m i (free h) = none_and (needs_register m i && none_free m) (no_victim m i) (and_none (needs_register m i) (none_free m) (ne_eqb m.free_registers.head 0 h))
 supplied_none m i (younger j a b h) = and_none (needs_register m i && none_free m) (no_victim m i) (ne_eqb (victim_of m i) i (victim_found (m.count - suc i) m.physical m.entries i j a (omega arith) h))

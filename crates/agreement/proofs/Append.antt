@@ -71,7 +71,7 @@ module _ (p : List ℕ) (s : State) (c : View) (invariant : Invariant p s c) (x 
       }
 
   module _ (d : ℕ) (dest : x.destination ≡ suc d) (n : ℕ) (ns : List ℕ)
-      (pool : NamePool c.setup.window m (map name_of c.entries) c.namehead c.namelink (n ∷ ns)) (live : Live c.physical m (map name_of c.entries) (n ∷ ns)) where
+      (pool : NamePool c.setup.window m (map name_of c.entries) c.free_names.head c.free_names.link (n ∷ ns)) (live : Live c.physical m (map name_of c.entries) (n ∷ ns)) where
     abbrev v : ℕ
     v = read_register (step_of p t).state.registers (destination x.instruction)
 
@@ -101,6 +101,6 @@ module _ (p : List ℕ) (s : State) (c : View) (invariant : Invariant p s c) (x 
       cases : (d : ℕ) → x.destination ≡ d → Invariant p s (append d x c)
       cases zero e = append_without e
       cases (suc d) e =
-          let f : (n : ℕ) × (ns : List ℕ) × NamePool c.setup.window m (map name_of c.entries) c.namehead c.namelink (n ∷ ns) × Live c.physical m (map name_of c.entries) (n ∷ ns) =
-          name_left c.setup.window c.physical m (map name_of c.entries) c.namehead c.namelink accounting.free_names accounting.name_pool accounting.live (rw length-map space) in
+          let f : (n : ℕ) × (ns : List ℕ) × NamePool c.setup.window m (map name_of c.entries) c.free_names.head c.free_names.link (n ∷ ns) × Live c.physical m (map name_of c.entries) (n ∷ ns) =
+          name_left c.setup.window c.physical m (map name_of c.entries) c.free_names.head c.free_names.link accounting.free_names accounting.name_pool accounting.live (rw length-map space) in
           append_with d e f.0 f.1 f.2 f.3

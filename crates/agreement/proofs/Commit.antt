@@ -16,7 +16,6 @@ use Rattle.agreement.proofs.Chains.{renaming_of, Renamed, RenameChain, last_name
 use Rattle.agreement.proofs.Contents.{holding, without, stopped, early, HoldsIn}
 use Rattle.agreement.proofs.Invariant.{Invariant, Emptied}
 use Rattle.agreement.proofs.Tests.{impossible}
-use Rattle.agreement.proofs.Every.{all_at}
 use Rattle.agreement.proofs.Steps.{step_stored}
 use Rattle.agreement.proofs.Walks.{executes_at, agree_next}
 use Rattle.agreement.proofs.Placing.{steer_accounted}
@@ -33,7 +32,7 @@ module _ (p : List ℕ) (s : State) (c : View) (invariant : Invariant p s c) (so
   executes = executes_at p invariant.ghost s c.entries 0 some invariant.executed
 
   holds : HoldsIn c.physical e
-  holds = all_at (HoldsIn c.physical) c.entries empty_entry 0 some invariant.accounting.contents.holds
+  holds = invariant.accounting.contents.holds 0 empty_entry some
 
   -- with a cause the in-order step stops with it
   pub halt_stops : e.stop.cause ≢ 0 → (step_of p s).stop ≡ e.stop

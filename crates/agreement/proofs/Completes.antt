@@ -42,8 +42,8 @@ tidy_placed i x c inside t p =
       physical = t.physical;
       names = t.names;
       registers = t.registers;
-      registerlink = t.registerlink;
-      namelink = t.namelink;
+      register_link = t.register_link;
+      name_link = t.name_link;
       entries = λ j h. elim (eq? j i) [
         | equal q u ↦ subst (Plain c.physical) (sym (ap (λ (n : ℕ). get_or (set c.entries i x) n empty_entry) q ∙ get_or-set_same c.entries i x empty_entry inside)) p
         | apart q u ↦ subst (Plain c.physical) (sym (get_or-set_other c.entries i j x empty_entry q)) (t.entries j (omega (arith, length-set c.entries i x, h)))
@@ -53,7 +53,7 @@ tidy_placed i x c inside t p =
 -- the entry at i is completed with the head of the pool
 module _ (p : List ℕ) (s : State) (c : View) (invariant : Invariant p s c) (i : ℕ) (inside : i < length c.entries) (size : ℕ) (sized : length s.memory ≡ size)
     (now : (get_or c.entries i empty_entry).state ≡ Issued) (o : Outcome) (is : outcome_of size (get_or c.entries i empty_entry) ≡ o) (goes : o.stop.cause ≡ 0)
-    (written : (get_or c.entries i empty_entry).destination ≢ 0) (head : c.registerhead ≢ 0) where
+    (written : (get_or c.entries i empty_entry).destination ≢ 0) (head : c.free_registers.head ≢ 0) where
   learn_tidy : Tidy (learn i o.result c)
   learn_tidy =
       let g : Ghost = invariant.ghost in
@@ -67,8 +67,8 @@ module _ (p : List ℕ) (s : State) (c : View) (invariant : Invariant p s c) (i 
       let value : o.result ≡ get_or g.value e.name 0 =
       complete_value p g t e size sized_here executes now o is goes (agree_at p g m s c.entries i a.writers.size invariant.agree a.renamed invariant.executed).size
       (omega (arith, renamed.written, renamed.small)) (λ q. written (renamed.written ∙ q)) in
-      let q : (n : ℕ) × (ns : List ℕ) × RegisterPool c.setup.registers c.physical c.registerhead c.registerlink (n ∷ ns) =
-      pool_some c.setup.registers c.physical c.registerhead c.registerlink a.free_registers a.register_pool head in
+      let q : (n : ℕ) × (ns : List ℕ) × RegisterPool c.setup.registers c.physical c.free_registers.head c.free_registers.link (n ∷ ns) =
+      pool_some c.setup.registers c.physical c.free_registers.head c.free_registers.link a.free_registers a.register_pool head in
       accounted_tidy g m (learn i o.result c)
       (learn_accounted g m c a i inside (named p s c invariant i inside written) o.result q.0 q.1 q.2 now (issued_read p g t e size sized_here executes now).clean value)
 
@@ -131,17 +131,17 @@ module _ (program : List ℕ) (s : State) (m : Core) (k : Kept m) (invariant : I
       named_here : Named (entry_at m i)
       named_here = record { destination = written; name = λ z. named program s c invariant i inside written_seen (ap (λ (e : Entry). e.name) q ∙ z) }
 
-      pub take_core_keeps : m.registerhead ≢ 0 → Invariant program s (view_of (redirected i o.next (learned i m.registerhead o.result m)))
+      pub take_core_keeps : m.free_registers.head ≢ 0 → Invariant program s (view_of (redirected i o.next (learned i m.free_registers.head o.result m)))
       unfolding learned
       take_core_keeps head =
-          let v : view_of (learned i m.registerhead o.result m) ≡ learn i o.result c = view_taken i o.result m h named_here head in
+          let v : view_of (learned i m.free_registers.head o.result m) ≡ learn i o.result c = view_taken i o.result m h named_here head in
           subst (Invariant program s)
-          (sym (view_redirected i o.next (learned i m.registerhead o.result m) (kept_learned m k i m.registerhead o.result head)
+          (sym (view_redirected i o.next (learned i m.free_registers.head o.result m) (kept_learned m k i m.free_registers.head o.result head)
           (subst Tidy (sym v) (learn_tidy program s c invariant i inside m.setup.bytes sized now_seen o is goes written_seen head)) h ∙ ap (redirect i o.next) v))
           (finish_keeps_free program s c invariant i inside m.setup.bytes sized now_seen o is goes written_seen head)
 
       -- with the register of a younger entry
-      module _ (v : ℕ) (younger : i < v) (there : v < m.count) (holds : held m.physical (entry_at m v) ≢ 0) (empty : m.registerhead ≡ 0) where
+      module _ (v : ℕ) (younger : i < v) (there : v < m.count) (holds : held m.physical (entry_at m v) ≢ 0) (empty : m.free_registers.head ≡ 0) where
         qv : get_or c.entries v empty_entry ≡ entry_at m v
         qv = seen_entry m v there
 
@@ -164,9 +164,9 @@ module _ (program : List ℕ) (s : State) (m : Core) (k : Kept m) (invariant : I
         named_v = record { destination = λ z. name_v (plain_v.nameless z); name = name_v }
 
         -- the victim's register is not in the pool
-        outside : get_or m.registerlink (held m.physical (entry_at m v)) 0 ≡ 0
+        outside : get_or m.free_registers.link (held m.physical (entry_at m v)) 0 ≡ 0
         outside =
-            held_outside m.setup.registers m.physical m.registerhead m.registerlink invariant.accounting.free_registers invariant.accounting.register_pool (entry_at m v).name
+            held_outside m.setup.registers m.physical m.free_registers.head m.free_registers.link invariant.accounting.free_registers invariant.accounting.register_pool (entry_at m v).name
             (held m.physical (entry_at m v)) (sym plain_v.holds) holds
 
         view : view_of (learned i (held m.physical (entry_at m v)) o.result (robbed v m)) ≡ learn i o.result (release v c)

@@ -2,19 +2,15 @@
 use Prim.Native.Nat.{ℕ}
 use mathlib.Core.Path.{◌≡◌}
 use mathlib.Core.Logic.{◌≢◌}
-use mathlib.Core.List.{List, [], ◌∷◌}
+use mathlib.Core.List.{List}
 use lib.ListN.{length, get_or}
+use Rattle.std.specs.List.{All}
 use Rattle.tables.specs.declared.Operand.{Operand}
 use Rattle.tables.specs.declared.State.{State as Stage}
 use Rattle.tables.specs.declared.State.TheVariants.{Completed}
 use Rattle.tables.specs.declared.Entry.{Entry}
 use Rattle.agreement.proofs.View.{operand_for, name_in}
 use Rattle.agreement.proofs.Ghost.{Ghost}
-
--- a property of every element
-unfoldable pub All : {A : Type 0} → (A → Type 0) → List A → Type 0
-All q [] = Unit
-All q (e ∷ es) = q e × All q es
 
 -- operands show what the physical map gives their names
 pub record Shown (physical : List ℕ) (one two : Operand) : Type 0 where

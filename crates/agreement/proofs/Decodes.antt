@@ -45,19 +45,19 @@ names_some g m c accounting r h z q =
     z (sym a ∙ b)
 
 module _ (program : List ℕ) (s : State) (m : Core) (k : Kept m) (invariant : Invariant program s (view_of m)) where
-  zero_name_lem : get_or m.mapname 0 0 ≡ 0
+  zero_name_lem : get_or m.map.names 0 0 ≡ 0
   zero_name_lem = zero_named invariant.ghost invariant.committed (view_of m) invariant.accounting
 
-  zero_register_lem : get_or m.mapregister 0 0 ≡ 0
+  zero_register_lem : get_or m.map.registers 0 0 ≡ 0
   zero_register_lem = invariant.accounting.general.gives 0 ∙ ap (λ (x : ℕ). get_or m.physical x 0) zero_name_lem ∙ invariant.accounting.contents.valued.zero_register
 
-  operand_on_lem : (r : ℕ) → r < 32 → operand_on m r ≡ operand_for (get_or m.mapname r 0) (get_or m.mapregister r 0)
+  operand_on_lem : (r : ℕ) → r < 32 → operand_on m r ≡ operand_for (get_or m.map.names r 0) (get_or m.map.registers r 0)
   operand_on_lem r h =
-      let name : look_up m.mapname r ≡ get_or m.mapname r 0 = look_get m.mapname r zero_name_lem in
-      let register : look_up m.mapregister r ≡ get_or m.mapregister r 0 = look_get m.mapregister r zero_register_lem in
-      shown_operand_lem r (look_up m.mapname r) (look_up m.mapregister r) (look_valid m.mapvalid r) (λ e. sym (look_zero m.mapname r e))
+      let name : look_up m.map.names r ≡ get_or m.map.names r 0 = look_get m.map.names r zero_name_lem in
+      let register : look_up m.map.registers r ≡ get_or m.map.registers r 0 = look_get m.map.registers r zero_register_lem in
+      shown_operand_lem r (look_up m.map.names r) (look_up m.map.registers r) (look_valid m.map.valid r) (λ e. sym (look_zero m.map.names r e))
       (λ z q. names_some invariant.ghost invariant.committed (view_of m) invariant.accounting r h z (sym name ∙ q)) (k.valid r)
-      ∙ ap (λ (x : ℕ). operand_for x (look_up m.mapregister r)) name ∙ ap (operand_for (get_or m.mapname r 0)) register
+      ∙ ap (λ (x : ℕ). operand_for x (look_up m.map.registers r)) name ∙ ap (operand_for (get_or m.map.names r 0)) register
 
   started_seen : (i : Instruction) (guess : ℕ) → Named i → started_entry m i guess ≡ started_in (view_of m) i guess
   started_seen i guess n = λ j. record {
@@ -71,7 +71,7 @@ module _ (program : List ℕ) (s : State) (m : Core) (k : Kept m) (invariant : I
     right = operand_on_lem (second_source i) n.second j;
     destination = destination i;
     name = name_for m (destination i);
-    previous = look_get m.mapname (destination i) zero_name_lem j;
+    previous = look_get m.map.names (destination i) zero_name_lem j;
     state = Waits;
     stop = stop 0;
   }

@@ -37,8 +37,8 @@ use Rattle.agreement.proofs.Onward.{commits_within}
 emptied_shows : (s : State) (m : Core) → Emptied s (view_of m) → (r : ℕ) → 1 ≤ r → r < 32 → value_in m r ≡ get_or s.registers r 0
 emptied_shows s m a r l h =
     let nz : r ≢ 0 = λ z. omega arith in
-    let register : look_up m.mapregister r ≡ get_or m.mapregister r 0 = sym (look_within m.mapregister r nz) in
-    ap (look_up m.values) register ∙ sym (look_within m.values (get_or m.mapregister r 0) (emptied_register s (view_of m) a r l h)) ∙ emptied_value s (view_of m) a r l h ∙ read_some s.registers r nz
+    let register : look_up m.map.registers r ≡ get_or m.map.registers r 0 = sym (look_within m.map.registers r nz) in
+    ap (look_up m.values) register ∙ sym (look_within m.values (get_or m.map.registers r 0) (emptied_register s (view_of m) a r l h)) ∙ emptied_value s (view_of m) a r l h ∙ read_some s.registers r nz
 
 module _ (program : List ℕ) (begin : State) (n : ℕ) (w : World) (r : Reached program begin n w) where
   abbrev m : Core

@@ -21,7 +21,7 @@ use Rattle.committing.specs.Commit.{commit_refusal, halted_by, move_down, retire
 use Rattle.window.specs.Calls.{call_of, needed_by}
 use Rattle.window.specs.Drain.{idle}
 use Rattle.renaming.specs.declared.Core.{Core}
-use Rattle.renaming.specs.declared.Answer.{Answer}
+use Rattle.renaming.specs.Answer.{Answer}
 use Rattle.agreement.proofs.Refusals.{is_zero}
 use Rattle.agreement.proofs.Tests.{by_choice}
 use Rattle.agreement.proofs.Turns.{At}

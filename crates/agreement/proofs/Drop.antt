@@ -12,7 +12,7 @@ use Rattle.tables.specs.declared.Entry.{Entry}
 use Rattle.agreement.proofs.View.{View, drop_at, drops_to}
 use Rattle.agreement.proofs.Ghost.{Ghost}
 use Rattle.agreement.proofs.Chains.{renaming_of, Renamed, last_names}
-use Rattle.agreement.proofs.Contents.{All, ShownIn, HoldsIn, GeneralMap}
+use Rattle.agreement.proofs.Contents.{ShownIn, HoldsIn, GeneralMap}
 use Rattle.agreement.proofs.Pools.{name_of, NamePool}
 use Rattle.agreement.proofs.Invariant.{Accounting}
 use Rattle.agreement.proofs.Tests.{equal, apart, eq?}
@@ -20,8 +20,9 @@ use Rattle.agreement.proofs.Counting.{same_refl, count_last}
 use Rattle.agreement.proofs.RegisterPools.{put_free, register_free}
 use Rattle.agreement.proofs.NamePools.{name_drop, name_most}
 use Rattle.agreement.proofs.LiveLaws.{live_drop}
-use Rattle.agreement.proofs.Every.{all_take, all_both, all_under}
-use Rattle.agreement.proofs.Walks.{renamed_at, renamed_take, last_names_lem, Lacks, lacks_last, lacks_all}
+use Rattle.std.specs.List.{All}
+use Rattle.std.proofs.lemmas.List.Elements.{All-take}
+use Rattle.agreement.proofs.Walks.{renamed_at, renamed_take, last_names_lem, lacks_last, lacks_all}
 use Rattle.agreement.proofs.ContentLaws.{clear_other, shown_clear, holds_clear, valued_clear}
 use Rattle.agreement.proofs.NameFacts.{no_name, entry_range, not_committed}
 
@@ -44,25 +45,25 @@ module _ (g : Ghost) (m : List ℕ) (c : View) (accounting : Accounting g m c) (
   here : Renamed g (last_names m (map renaming_of kept)) (renaming_of e)
   here = renamed_at g m c.entries n (omega arith) accounting.renamed
 
-  pool : NamePool c.setup.window m (map name_of kept ++ e.name ∷ []) c.namehead c.namelink accounting.free_names
+  pool : NamePool c.setup.window m (map name_of kept ++ e.name ∷ []) c.free_names.head c.free_names.link accounting.free_names
   pool = rw names_split at accounting.name_pool
 
   alone : e.name ≢ 0 → (occurrences e.name (map name_of kept) ≡ 0) × (occurrences e.name accounting.free_names ≡ 0)
   alone z = omega (
     arith,
-    name_most c.setup.window m (map name_of kept ++ e.name ∷ []) c.namehead c.namelink accounting.free_names pool e.name (omega arith),
+    name_most c.setup.window m (map name_of kept ++ e.name ∷ []) c.free_names.head c.free_names.link accounting.free_names pool e.name (omega arith),
     count_last e.name e.name (map name_of kept),
     same_refl e.name,
   )
 
   uncommitted : e.name ≢ 0 → (r : ℕ) → get_or m r 0 ≢ e.name
-  uncommitted z = not_committed c.setup.window m c.entries c.namehead c.namelink accounting.free_names accounting.name_pool n e.name refl z
+  uncommitted z = not_committed c.setup.window m c.entries c.free_names.head c.free_names.link accounting.free_names accounting.name_pool n e.name refl z
 
   others : e.name ≢ 0 → All (λ x. x.name ≢ e.name) kept
   others z = no_name kept e.name z (alone z).0
 
   in_range : e.name < length c.physical
-  in_range = omega (arith, entry_range c.setup.window m c.entries c.namehead c.namelink accounting.free_names accounting.name_pool n, accounting.physical_room, accounting.name_pool.bound)
+  in_range = omega (arith, entry_range c.setup.window m c.entries c.free_names.head c.free_names.link accounting.free_names accounting.name_pool n, accounting.physical_room, accounting.name_pool.bound)
 
   zero_register_lem : get_or c.physical 0 0 ≡ 0
   zero_register_lem = accounting.contents.valued.zero_register
@@ -100,16 +101,16 @@ module _ (g : Ghost) (m : List ℕ) (c : View) (accounting : Accounting g m c) (
     writers = accounting.writers;
     renamed = renamed_take g m c.entries n accounting.renamed;
     contents = record {
-      shown = all_both (λ x. e.name ≢ 0 → Lacks e.name x) (ShownIn c.physical) (ShownIn physical') kept (λ x l s. shown_clear c.physical e.name x zero_register_lem l s)
-          (all_under (Lacks e.name) kept (e.name ≢ 0) (λ z. lacks_all g e.name m kept (uncommitted z) (others z) (renamed_take g m c.entries n accounting.renamed)))
-          (all_take (ShownIn c.physical) c.entries n accounting.contents.shown);
-      holds = all_both (λ x. e.name ≢ 0 → x.name ≢ e.name) (HoldsIn c.physical) (HoldsIn physical') kept
-          (λ x l s. holds_clear c.physical e.name x.state x.stop.cause x.name (clear_other c.physical e.name x.name zero_register_lem l) s)
-          (all_under (λ x. x.name ≢ e.name) kept (e.name ≢ 0) others) (all_take (HoldsIn c.physical) c.entries n accounting.contents.holds);
+      shown = λ i d h. shown_clear c.physical e.name (get_or kept i d) zero_register_lem
+          (λ z. lacks_all g e.name m kept (uncommitted z) (others z) (renamed_take g m c.entries n accounting.renamed) i d h)
+          (All-take (ShownIn c.physical) n c.entries accounting.contents.shown i d h);
+      holds = λ i d h. let x : Entry = get_or kept i d in
+          holds_clear c.physical e.name x.state x.stop.cause x.name (clear_other c.physical e.name x.name zero_register_lem (λ z. others z i d h))
+          (All-take (HoldsIn c.physical) n c.entries accounting.contents.holds i d h);
       valued = valued_clear g c.physical c.values e.name accounting.contents.valued;
     };
-    register_pool = register_free c.setup.registers c.physical c.registerhead c.registerlink accounting.free_registers e.name (get_or c.physical e.name 0) accounting.register_pool in_range refl;
-    name_pool = name_drop c.setup.window m (map name_of kept) c.namehead c.namelink accounting.free_names e.name pool;
+    register_pool = register_free c.setup.registers c.physical c.free_registers.head c.free_registers.link accounting.free_registers e.name (get_or c.physical e.name 0) accounting.register_pool in_range refl;
+    name_pool = name_drop c.setup.window m (map name_of kept) c.free_names.head c.free_names.link accounting.free_names e.name pool;
     live = live_drop c.physical m (map name_of kept) accounting.free_names e.name (rw names_split at accounting.live) zero_register_lem in_range alone (λ r z. uncommitted z r);
     shows = names_before;
     general = rw names_before general_before;

@@ -15,14 +15,15 @@ use Rattle.decoding.specs.Decode.{entering_stop}
 use Rattle.agreement.proofs.View.{View, operand_for, name_in, append}
 use Rattle.agreement.proofs.Ghost.{Ghost}
 use Rattle.agreement.proofs.Chains.{renaming_of, Renamed, last_names}
-use Rattle.agreement.proofs.Contents.{All, Shown, ShownIn, stopped, early, HoldsIn, GeneralMap}
+use Rattle.agreement.proofs.Contents.{Shown, ShownIn, stopped, early, HoldsIn, GeneralMap}
 use Rattle.agreement.proofs.Pools.{name_of, NamePool, Live}
 use Rattle.agreement.proofs.Invariant.{Accounting}
 use Rattle.agreement.proofs.Tests.{equal, apart, eq?, impossible}
 use Rattle.agreement.proofs.Counting.{count_not}
 use Rattle.agreement.proofs.NamePools.{name_take, name_none, fresh_is, fresh_some, fresh_range, fresh_once}
 use Rattle.agreement.proofs.LiveLaws.{set_zero, live_take, live_none}
-use Rattle.agreement.proofs.Every.{all_append}
+use Rattle.std.specs.List.{All}
+use Rattle.std.proofs.lemmas.List.Elements.{All-push}
 use Rattle.agreement.proofs.Steps.{Named, fetched_named}
 use Rattle.agreement.proofs.Walks.{renamed_append, last_names_lem, writers_last, zero_last}
 use Rattle.agreement.proofs.ContentLaws.{operand_name}
@@ -37,7 +38,7 @@ pub record Enters (program : List ℕ) (c : View) (x : Entry) : Type 0 where
   pub right : x.right ≡ operand_for (get_or c.names (second_source x.instruction) 0) (get_or c.registers (second_source x.instruction) 0)
   pub written : x.destination ≡ destination x.instruction
   pub unnamed : x.destination ≡ 0 → x.name ≡ 0
-  pub named : x.destination ≢ 0 → x.name ≡ c.namehead
+  pub named : x.destination ≢ 0 → x.name ≡ c.free_names.head
   pub previous : x.previous ≡ get_or c.names x.destination 0
   pub waits : (entering_stop (fetch_at program c.fetch)).cause ≡ 0 → (x.state ≡ Waits) × (x.stop.cause ≡ 0)
   pub stops : (entering_stop (fetch_at program c.fetch)).cause ≢ 0 → (x.state ≡ Completed) × (x.stop ≡ entering_stop (fetch_at program c.fetch))
@@ -97,12 +98,12 @@ module _ (g : Ghost) (m : List ℕ) (c : View) (accounting : Accounting g m c) (
         writers = accounting.writers;
         renamed = renamed_append g m c.entries x accounting.renamed (renamed_new g (cc (accounting.writers.writers 0 (omega arith), accounting.name_pool.zero_name)));
         contents = record {
-          shown = all_append (ShownIn c.physical) c.entries x accounting.contents.shown shown_new;
-          holds = all_append (HoldsIn c.physical) c.entries x accounting.contents.holds (holds_new (ap (λ (n : ℕ). get_or c.physical n 0) nz ∙ accounting.contents.valued.zero_register));
+          shown = All-push (ShownIn c.physical) c.entries x accounting.contents.shown shown_new;
+          holds = All-push (HoldsIn c.physical) c.entries x accounting.contents.holds (holds_new (ap (λ (n : ℕ). get_or c.physical n 0) nz ∙ accounting.contents.valued.zero_register));
           valued = accounting.contents.valued;
         };
         register_pool = accounting.register_pool;
-        name_pool = rw (names_new, nz) (name_none c.setup.window m (map name_of c.entries) c.namehead c.namelink accounting.free_names accounting.name_pool);
+        name_pool = rw (names_new, nz) (name_none c.setup.window m (map name_of c.entries) c.free_names.head c.free_names.link accounting.free_names accounting.name_pool);
         live = rw (names_new, nz) (live_none c.physical m (map name_of c.entries) accounting.free_names accounting.contents.valued.zero_register accounting.live);
         shows = accounting.shows ∙ sym (last_names_lem m c.entries x ∙ cc (set_zero (last_names m (map renaming_of c.entries)) 0 (zero_last g m c.entries accounting.name_pool.zero_name accounting.renamed)));
         general = accounting.general;
@@ -116,22 +117,22 @@ module _ (g : Ghost) (m : List ℕ) (c : View) (accounting : Accounting g m c) (
       }
 
   -- with one: the name n is new, and stands for v
-  module _ (d n v : ℕ) (ns : List ℕ) (pool : NamePool c.setup.window m (map name_of c.entries) c.namehead c.namelink (n ∷ ns))
+  module _ (d n v : ℕ) (ns : List ℕ) (pool : NamePool c.setup.window m (map name_of c.entries) c.free_names.head c.free_names.link (n ∷ ns))
       (live : Live c.physical m (map name_of c.entries) (n ∷ ns)) (dest : x.destination ≡ suc d) where
     is : x.name ≡ n
-    is = enters.named (λ z. omega (arith, dest)) ∙ fresh_is c.setup.window m (map name_of c.entries) c.namehead c.namelink n ns pool
+    is = enters.named (λ z. omega (arith, dest)) ∙ fresh_is c.setup.window m (map name_of c.entries) c.free_names.head c.free_names.link n ns pool
 
     abbrev pub renewed : Ghost
     renewed = record { value = set g.value n v; writer = set g.writer n (suc d) }
 
     once : (occurrences n ns ≡ 0) × (occurrences n m ≡ 0) × (occurrences n (map name_of c.entries) ≡ 0)
-    once = fresh_once c.setup.window m (map name_of c.entries) c.namehead c.namelink n ns pool
+    once = fresh_once c.setup.window m (map name_of c.entries) c.free_names.head c.free_names.link n ns pool
 
     some : n ≢ 0
-    some = fresh_some c.setup.window m (map name_of c.entries) c.namehead c.namelink n ns pool
+    some = fresh_some c.setup.window m (map name_of c.entries) c.free_names.head c.free_names.link n ns pool
 
     range : n < 96
-    range = omega (arith, fresh_range c.setup.window m (map name_of c.entries) c.namehead c.namelink n ns pool, pool.bound)
+    range = omega (arith, fresh_range c.setup.window m (map name_of c.entries) c.free_names.head c.free_names.link n ns pool, pool.bound)
 
     pub new_values : (j : ℕ) → j ≢ n → get_or renewed.value j 0 ≡ get_or g.value j 0
     new_values j z = get_or-set_other g.value n j v 0 z
@@ -149,10 +150,9 @@ module _ (g : Ghost) (m : List ℕ) (c : View) (accounting : Accounting g m c) (
     others = no_name c.entries n some once.2
 
     unused : get_or c.physical n 0 ≡ 0
-    unfolding All
-    unused = live.unused.0
+    unused = live.unused 0 0 (omega arith)
 
-    general_after : GeneralMap c.physical (set c.names (suc d) c.namehead) (set c.registers (suc d) 0)
+    general_after : GeneralMap c.physical (set c.names (suc d) c.free_names.head) (set c.registers (suc d) 0)
     general_after =
         let l : length c.names ≡ 32 = rw accounting.shows (writers_last g m c.entries accounting.writers accounting.renamed).size in
         let b : suc d < 32 = omega (arith, dest, enters.written, fields.destination) in
@@ -160,11 +160,11 @@ module _ (g : Ghost) (m : List ℕ) (c : View) (accounting : Accounting g m c) (
           gives = λ r. elim (eq? r (suc d)) [
             | equal q t ↦ cc (
               get_or-set_same c.registers (suc d) 0 0 (omega (arith, accounting.general.size)),
-              get_or-set_same c.names (suc d) c.namehead 0 (omega arith),
+              get_or-set_same c.names (suc d) c.free_names.head 0 (omega arith),
               unused,
-              fresh_is c.setup.window m (map name_of c.entries) c.namehead c.namelink n ns pool,
+              fresh_is c.setup.window m (map name_of c.entries) c.free_names.head c.free_names.link n ns pool,
             )
-            | apart q t ↦ cc (get_or-set_other c.registers (suc d) r 0 0 q, get_or-set_other c.names (suc d) r c.namehead 0 q, accounting.general.gives r)
+            | apart q t ↦ cc (get_or-set_other c.registers (suc d) r 0 0 q, get_or-set_other c.names (suc d) r c.free_names.head 0 q, accounting.general.gives r)
           ];
           size = length-set c.registers (suc d) 0 ∙ accounting.general.size;
         }
@@ -178,12 +178,12 @@ module _ (g : Ghost) (m : List ℕ) (c : View) (accounting : Accounting g m c) (
       renamed = renamed_append renewed m c.entries x (renamed_ghost g renewed n new_values new_writers m c.entries others accounting.renamed)
           (renamed_new renewed (rw (is, dest) (get_or-set_same g.writer n (suc d) 0 (omega (arith, range, accounting.writer_room)))));
       contents = record {
-        shown = all_append (ShownIn c.physical) c.entries x accounting.contents.shown shown_new;
-        holds = all_append (HoldsIn c.physical) c.entries x accounting.contents.holds (holds_new (rw is unused));
+        shown = All-push (ShownIn c.physical) c.entries x accounting.contents.shown shown_new;
+        holds = All-push (HoldsIn c.physical) c.entries x accounting.contents.holds (holds_new (rw is unused));
         valued = valued_ghost g renewed n new_values new_writers c.physical c.values unused some accounting.contents.valued;
       };
       register_pool = accounting.register_pool;
-      name_pool = rw (names_new, is) (name_take c.setup.window m (map name_of c.entries) c.namehead c.namelink n ns pool);
+      name_pool = rw (names_new, is) (name_take c.setup.window m (map name_of c.entries) c.free_names.head c.free_names.link n ns pool);
       live = rw (names_new, is) (live_take c.physical m (map name_of c.entries) ns n live);
       shows = sym (last_names_lem m c.entries x ∙ cc (accounting.shows, dest, enters.named (λ z. omega (arith, dest))));
       general = general_after;

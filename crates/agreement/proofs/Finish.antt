@@ -21,7 +21,7 @@ use Rattle.agreement.proofs.Pools.{RegisterPool}
 use Rattle.agreement.proofs.Invariant.{Invariant}
 use Rattle.agreement.proofs.Tests.{impossible}
 use Rattle.agreement.proofs.RegisterPools.{put_head_lem, pool_some}
-use Rattle.agreement.proofs.Every.{all_at, map_keep}
+use Rattle.agreement.proofs.Every.{map_keep}
 use Rattle.agreement.proofs.Walks.{names_at, state_at, renamed_at, executes_at, agree_at, executed_set, state_set, last_length}
 use Rattle.agreement.proofs.Placing.{placed_accounted, placed_keeps}
 use Rattle.agreement.proofs.Learn.{no_register, release_accounted, learn_accounted}
@@ -49,10 +49,10 @@ module _ (p : List ℕ) (s : State) (c : View) (invariant : Invariant p s c) (i 
   renamed = renamed_at g m c.entries i inside invariant.accounting.renamed
 
   shown : ShownIn c.physical e
-  shown = all_at (ShownIn c.physical) c.entries empty_entry i inside invariant.accounting.contents.shown
+  shown = invariant.accounting.contents.shown i empty_entry inside
 
   holds : HoldsIn c.physical e
-  holds = all_at (HoldsIn c.physical) c.entries empty_entry i inside invariant.accounting.contents.holds
+  holds = invariant.accounting.contents.holds i empty_entry inside
 
   -- a destination has a name
   pub named : e.destination ≢ 0 → e.name ≢ 0
@@ -86,14 +86,14 @@ module _ (p : List ℕ) (s : State) (c : View) (invariant : Invariant p s c) (i 
           (agree_at p g m s c.entries i invariant.accounting.writers.size invariant.agree invariant.accounting.renamed invariant.executed).size
           (omega (arith, renamed.written, renamed.small)) (λ q. z (renamed.written ∙ q))
 
-      pub finish_keeps_free : e.destination ≢ 0 → c.registerhead ≢ 0 → Invariant p s (redirect i o.next (learn i o.result c))
+      pub finish_keeps_free : e.destination ≢ 0 → c.free_registers.head ≢ 0 → Invariant p s (redirect i o.next (learn i o.result c))
       unfolding learn
       finish_keeps_free z h =
-          let q : (n : ℕ) × (ns : List ℕ) × RegisterPool c.setup.registers c.physical c.registerhead c.registerlink (n ∷ ns) =
-          pool_some c.setup.registers c.physical c.registerhead c.registerlink invariant.accounting.free_registers invariant.accounting.register_pool h in
+          let q : (n : ℕ) × (ns : List ℕ) × RegisterPool c.setup.registers c.physical c.free_registers.head c.free_registers.link (n ∷ ns) =
+          pool_some c.setup.registers c.physical c.free_registers.head c.free_registers.link invariant.accounting.free_registers invariant.accounting.register_pool h in
           redirect_keeps p g m s c (learn i o.result c) i o.next (completed_entry o.result e) inside invariant.agree invariant.executed invariant.fetching
           (learn_accounted g m c invariant.accounting i inside (named z) o.result q.0 q.1 q.2 now clean (result_right z))
-          (map_keep execution_of (inform_entry e.name c.registerhead) (set c.entries i (completed_entry o.result e)) (λ x. refl))
+          (map_keep execution_of (inform_entry e.name c.free_registers.head) (set c.entries i (completed_entry o.result e)) (λ x. refl))
           invariant.next refl refl (complete_executes p g t e size sized_here executes now o is o.result goes)
 
   -- an entry that holds a register loses it, and waits again
@@ -134,9 +134,9 @@ module _ (p : List ℕ) (s : State) (c : View) (invariant : Invariant p s c) (i 
           }
 
 -- a released register is the head of the pool
-pub released_head : (c : View) (j : ℕ) → get_or c.physical (get_or c.entries j empty_entry).name 0 ≢ 0 → (release j c).registerhead ≢ 0
+pub released_head : (c : View) (j : ℕ) → get_or c.physical (get_or c.entries j empty_entry).name 0 ≢ 0 → (release j c).free_registers.head ≢ 0
 unfolding release
-released_head c j h z = h (sym (put_head_lem (get_or c.physical (get_or c.entries j empty_entry).name 0) c.registerhead h) ∙ z)
+released_head c j h z = h (sym (put_head_lem (get_or c.physical (get_or c.entries j empty_entry).name 0) c.free_registers.head h) ∙ z)
 
 -- an entry that is not released is executed as before
 pub released_other : (c : View) (i j : ℕ) → i ≢ j → execution_of (get_or (release j c).entries i empty_entry) ≡ execution_of (get_or c.entries i empty_entry)
@@ -173,7 +173,7 @@ module _ (p : List ℕ) (s : State) (c : View) (invariant : Invariant p s c) (i 
   written_r q =
       written ((renamed p s c invariant i inside).written ∙ ap (λ (x : Execution). destination x.instruction) (sym like) ∙ sym (renamed p s r after i inside_r).written ∙ q)
 
-  head : r.registerhead ≢ 0
+  head : r.free_registers.head ≢ 0
   head = released_head c j has
 
   pub finish_keeps_theft : Invariant p s (redirect i o.next (learn i o.result (release j c)))

@@ -74,10 +74,10 @@ module _ (program : List ℕ) (w : World) (f : Fit program w) where
   fit_turn call made (takes i u h d r e) =
       let m : Core = w.core in
       let n : ℕ = (outcome_at m i).next in
-      let b : Core = learned i m.registerhead (outcome_at m i).result m in
+      let b : Core = learned i m.free_registers.head (outcome_at m i).result m in
       as_made made _ w.memory 0 e
-      (fit_world _ w.memory (kept_redirected i n b (kept_learned m f.kept i m.registerhead (outcome_at m i).result r))
-      ((steady_redirected i n b).setup ∙ (steady_learned i m.registerhead (outcome_at m i).result m).setup) refl)
+      (fit_world _ w.memory (kept_redirected i n b (kept_learned m f.kept i m.free_registers.head (outcome_at m i).result r))
+      ((steady_redirected i n b).setup ∙ (steady_learned i m.free_registers.head (outcome_at m i).result m).setup) refl)
   fit_turn call made (steals i v u h d r victim y t z e) =
       let m : Core = w.core in
       let n : ℕ = (outcome_at m i).next in

@@ -3,16 +3,19 @@ use Prim.Native.Nat.{ℕ}
 use mathlib.Core.Path.{◌≡◌, sym, ◌∙◌}
 use mathlib.Core.Logic.{◌≢◌}
 use mathlib.Core.List.{List, [], ◌∷◌, map}
+use native.Mathlib.Omega.{arith}
 use lib.ListN.{get_or, set}
+use Rattle.std.specs.List.{All}
+use Rattle.std.proofs.lemmas.List.Elements.{All-tail}
 use Rattle.reference.specs.Step.{State}
 use Rattle.tables.specs.declared.Entry.{Entry}
 use Rattle.agreement.proofs.Ghost.{Ghost, Writers, Agree}
 use Rattle.agreement.proofs.Chains.{renaming_of, Renamed, RenameChain, execution_of, Executes, followed, ExecutionChain}
-use Rattle.agreement.proofs.Contents.{All, Valued}
+use Rattle.agreement.proofs.Contents.{Valued}
 
 module _ (g h : Ghost) (n : ℕ) (values : (j : ℕ) → j ≢ n → get_or h.value j 0 ≡ get_or g.value j 0) (writers : (j : ℕ) → j ≢ n → get_or h.writer j 0 ≡ get_or g.writer j 0) where
   pub renamed_ghost : (m : List ℕ) (es : List Entry) → All (λ e. e.name ≢ n) es → RenameChain g m (map renaming_of es) → RenameChain h m (map renaming_of es)
-  unfolding All RenameChain
+  unfolding RenameChain
   renamed_ghost m [] a k = tt
   renamed_ghost m (e ∷ es) a k =
       let l : Renamed g m (renaming_of e) = k.0 in (
@@ -24,19 +27,19 @@ module _ (g h : Ghost) (n : ℕ) (values : (j : ℕ) → j ≢ n → get_or h.va
           left = l.left;
           right = l.right;
           previous = l.previous;
-          writer = writers e.name a.0 ∙ l.writer;
+          writer = writers e.name (a 0 e (omega arith)) ∙ l.writer;
           unnamed = l.unnamed;
         },
-        renamed_ghost (set m e.destination e.name) es a.1 k.1,
+        renamed_ghost (set m e.destination e.name) es (All-tail (λ x. x.name ≢ n) e es a) k.1,
       )
 
   pub executed_ghost : (p : List ℕ) (s : State) (es : List Entry) → All (λ e. e.name ≢ n) es → ExecutionChain p g s (map execution_of es) → ExecutionChain p h s (map execution_of es)
-  unfolding All ExecutionChain
+  unfolding ExecutionChain
   executed_ghost p s [] q k = tt
   executed_ghost p s (e ∷ es) q k =
       let o : Executes p g s (execution_of e) = k.0 in (
-        record { address = o.address; instruction = o.instruction; value = values e.name q.0 ∙ o.value; status = o.status },
-        executed_ghost p (followed p s e.predicted) es q.1 k.1,
+        record { address = o.address; instruction = o.instruction; value = values e.name (q 0 e (omega arith)) ∙ o.value; status = o.status },
+        executed_ghost p (followed p s e.predicted) es (All-tail (λ x. x.name ≢ n) e es q) k.1,
       )
 
   pub writers_ghost : (m : List ℕ) → ((r : ℕ) → get_or m r 0 ≢ n) → Writers g m → Writers h m

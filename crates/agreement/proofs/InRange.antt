@@ -7,6 +7,7 @@ use native.Mathlib.Omega.{arith}
 use borrow.Author.Tests.{le-leb, eqb-true, eq-eqb}
 use lib.Dec.{leb, eqb}
 use lib.ListN.{length, get_or}
+use Rattle.std.proofs.lemmas.Bool.{or_left, or_right}
 use Rattle.laws.proofs.Bools.{impossible, both}
 use Rattle.isa.specs.Encodes.{accepted}
 use Rattle.execution.specs.Memory.{store_ends_within}
@@ -43,10 +44,10 @@ pub record EntryInRange (s : Setup) (e : Entry) : Type 0 where
 
 pub record InRange (c : View) : Type 0 where
   pub setup : setup_in_range c.setup ≡ true
-  pub registerhead : c.registerhead ≤ c.setup.registers
-  pub registerlink : (k : ℕ) → get_or c.registerlink k 0 ≤ c.setup.registers
-  pub namehead : c.namehead ≤ names_of c.setup.window
-  pub namelink : (k : ℕ) → get_or c.namelink k 0 ≤ names_of c.setup.window
+  pub register_head : c.free_registers.head ≤ c.setup.registers
+  pub register_link : (k : ℕ) → get_or c.free_registers.link k 0 ≤ c.setup.registers
+  pub name_head : c.free_names.head ≤ names_of c.setup.window
+  pub name_link : (k : ℕ) → get_or c.free_names.link k 0 ≤ names_of c.setup.window
   pub physical : (k : ℕ) → get_or c.physical k 0 ≤ c.setup.registers
   pub names : (r : ℕ) → get_or c.names r 0 ≤ names_of c.setup.window
   pub registers : (r : ℕ) → get_or c.registers r 0 ≤ c.setup.registers
@@ -61,13 +62,6 @@ operand_in_range_lem names registers (suc n) zero h k = le-leb (suc n) names h
 operand_in_range_lem names registers (suc n) (suc r) h k = both (le-leb (suc n) names h) (le-leb (suc r) registers k)
 
 -- the tests of an entry
-or_left : (a b : Bool) → a ≡ true → a || b ≡ true
-or_left a b e = rw e
-
-or_right : (a b : Bool) → b ≡ true → a || b ≡ true
-or_right true b e = refl
-or_right false b e = e
-
 instruction_in_range_lem : (e : Entry) → Readable e → instruction_in_range e ≡ true
 instruction_in_range_lem e (encodable h) = or_left (accepted e.instruction) _ h
 instruction_in_range_lem e (missing n s c) = or_right (accepted e.instruction) _ (both (both n (ap is_completed s)) c)
@@ -111,8 +105,8 @@ module _ (m : Core) (k : Kept m) (r : InRange (view_of m)) where
   tables =
       let n : ℕ = m.setup.registers in
       let a : ℕ = names_of m.setup.window in
-      both (both (both (both (both (both (both (le-leb m.registerhead n r.registerhead) (within_holds n 1 n m.registerlink r.registerlink)) (le-leb m.namehead a r.namehead))
-      (within_holds a 1 a m.namelink r.namelink)) (within_holds n 1 a m.physical r.physical)) (within_holds a 1 31 m.mapname r.names)) (within_holds n 1 31 m.mapregister r.registers))
+      both (both (both (both (both (both (both (le-leb m.free_registers.head n r.register_head) (within_holds n 1 n m.free_registers.link r.register_link)) (le-leb m.free_names.head a r.name_head))
+      (within_holds a 1 a m.free_names.link r.name_link)) (within_holds n 1 a m.physical r.physical)) (within_holds a 1 31 m.map.names r.names)) (within_holds n 1 31 m.map.registers r.registers))
       (le-leb m.halt.cause 7 r.halt)
 
   entries : entries_in_range m.setup m.count m.entries ≡ true

@@ -17,8 +17,8 @@ pub record Accounting (g : Ghost) (committed : List ℕ) (c : View) : Type 0 whe
   pub writers : Writers g committed
   pub renamed : RenameChain g committed (map renaming_of c.entries)
   pub contents : Contents g c.physical c.values c.entries
-  pub register_pool : RegisterPool c.setup.registers c.physical c.registerhead c.registerlink free_registers
-  pub name_pool : NamePool c.setup.window committed (map name_of c.entries) c.namehead c.namelink free_names
+  pub register_pool : RegisterPool c.setup.registers c.physical c.free_registers.head c.free_registers.link free_registers
+  pub name_pool : NamePool c.setup.window committed (map name_of c.entries) c.free_names.head c.free_names.link free_names
   pub live : Live c.physical committed (map name_of c.entries) free_names
   -- the general map
   pub shows : c.names ≡ last_names committed (map renaming_of c.entries)

@@ -22,7 +22,7 @@ use Rattle.agreement.proofs.Chains.{renaming_of, Renamed, execution_of, waits, r
 use Rattle.agreement.proofs.Contents.{ShownIn, early, HoldsIn, Valued}
 use Rattle.agreement.proofs.Invariant.{Invariant}
 use Rattle.agreement.proofs.Tests.{equal, apart, eq?, impossible}
-use Rattle.agreement.proofs.Every.{all_at, all_make}
+use Rattle.std.proofs.lemmas.List.Elements.{All-from_get_or}
 use Rattle.agreement.proofs.Steps.{second_same}
 use Rattle.agreement.proofs.Walks.{names_at, state_at, renamed_at, executes_at, executed_take, agree_at, last_unstored}
 use Rattle.agreement.proofs.Placing.{placed_keeps}
@@ -68,16 +68,16 @@ module _ (p : List ℕ) (s : State) (c : View) (invariant : Invariant p s c) (i 
   renamed = renamed_at invariant.ghost invariant.committed c.entries i inside invariant.accounting.renamed
 
   shown : ShownIn c.physical e
-  shown = all_at (ShownIn c.physical) c.entries empty_entry i inside invariant.accounting.contents.shown
+  shown = invariant.accounting.contents.shown i empty_entry inside
 
   holds : HoldsIn c.physical e
-  holds = all_at (HoldsIn c.physical) c.entries empty_entry i inside invariant.accounting.contents.holds
+  holds = invariant.accounting.contents.holds i empty_entry inside
 
   -- without an older store the data are those of the in-order state
   unstored : ((j : ℕ) → j < i → stores (get_or c.entries j empty_entry).instruction ≡ false) → t.memory ≡ s.memory
   unstored f =
       last_unstored p invariant.ghost s (take i c.entries) (executed_take p invariant.ghost s c.entries i invariant.executed)
-      (all_make (λ x. stores x.instruction ≡ false) (take i c.entries) empty_entry (λ j h. older j (rw (length-take-le i c.entries (omega arith)) at h)))
+      (All-from_get_or (λ x. stores x.instruction ≡ false) (take i c.entries) empty_entry (λ j h. older j (rw (length-take-le i c.entries (omega arith)) at h)))
     where
       older : (j : ℕ) → j < i → stores (get_or (take i c.entries) j empty_entry).instruction ≡ false
       older j h = rw (get_or-take i c.entries j empty_entry h) (f j h)

@@ -28,24 +28,24 @@ use Rattle.renaming.proofs.ChangeLaws.{change_length}
 
 -- a valid bit says that the general map shows a register
 abbrev pub Valid : List Bool → List ℕ → Type 0
-Valid mapvalid mapregister = (r : ℕ) → look_valid mapvalid r ≡ not (eqb (look_up mapregister r) 0)
+Valid bits registers = (r : ℕ) → look_valid bits r ≡ not (eqb (look_up registers r) 0)
 
 pub record Kept (m : Core) : Type 0 where
   pub entries : length m.entries ≡ 64
-  pub mapname : length m.mapname ≡ 32
-  pub mapregister : length m.mapregister ≡ 32
-  pub mapvalid : length m.mapvalid ≡ 32
+  pub names : length m.map.names ≡ 32
+  pub registers : length m.map.registers ≡ 32
+  pub valid_bits : length m.map.valid ≡ 32
   pub physical : length m.physical ≡ 96
   pub values : length m.values ≡ 96
-  pub registerlink : length m.registerlink ≡ 96
-  pub namelink : length m.namelink ≡ 96
+  pub register_link : length m.free_registers.link ≡ 96
+  pub name_link : length m.free_names.link ≡ 96
   pub count : m.count ≤ m.setup.window
   pub window : m.setup.window ≤ 64
-  pub valid : Valid m.mapvalid m.mapregister
+  pub valid : Valid m.map.valid m.map.registers
 
 -- a bit and a number are stored at one place
-set_valid : (mapvalid : List Bool) (mapregister : List ℕ) (d r : ℕ) (b : Bool) (v : ℕ) → length mapvalid ≡ length mapregister → b ≡ not (eqb v 0)
-    → get_or mapvalid r false ≡ not (eqb (get_or mapregister r 0) 0) → get_or (set mapvalid d b) r false ≡ not (eqb (get_or (set mapregister d v) r 0) 0)
+set_valid : (bits : List Bool) (registers : List ℕ) (d r : ℕ) (b : Bool) (v : ℕ) → length bits ≡ length registers → b ≡ not (eqb v 0)
+    → get_or bits r false ≡ not (eqb (get_or registers r 0) 0) → get_or (set bits d b) r false ≡ not (eqb (get_or (set registers d v) r 0) 0)
 set_valid [] [] d r b v l e h = h
 set_valid [] (y ∷ ys) d r b v l e h = absurd (omega arith)
 set_valid (x ∷ xs) [] d r b v l e h = absurd (omega arith)
@@ -54,21 +54,21 @@ set_valid (x ∷ xs) (y ∷ ys) zero (suc r) b v l e h = h
 set_valid (x ∷ xs) (y ∷ ys) (suc d) zero b v l e h = h
 set_valid (x ∷ xs) (y ∷ ys) (suc d) (suc r) b v l e h = set_valid xs ys d r b v (omega arith) e h
 
-store_valid : (mapvalid : List Bool) (mapregister : List ℕ) (d : ℕ) (b : Bool) (v : ℕ) → length mapvalid ≡ length mapregister → b ≡ not (eqb v 0)
-    → Valid mapvalid mapregister → Valid (store_under mapvalid d b) (store_under mapregister d v)
+store_valid : (bits : List Bool) (registers : List ℕ) (d : ℕ) (b : Bool) (v : ℕ) → length bits ≡ length registers → b ≡ not (eqb v 0)
+    → Valid bits registers → Valid (store_under bits d b) (store_under registers d v)
 unfolding look_under store_under
-store_valid mapvalid mapregister d b v l e h r = at (eqb d 0) (eqb r 0) (h r)
+store_valid bits registers d b v l e h r = at (eqb d 0) (eqb r 0) (h r)
   where
-    at : (p q : Bool) → choose q false (get_or mapvalid r false) ≡ not (eqb (choose q 0 (get_or mapregister r 0)) 0)
-        → choose q false (get_or (choose p mapvalid (set mapvalid d b)) r false) ≡ not (eqb (choose q 0 (get_or (choose p mapregister (set mapregister d v)) r 0)) 0)
+    at : (p q : Bool) → choose q false (get_or bits r false) ≡ not (eqb (choose q 0 (get_or registers r 0)) 0)
+        → choose q false (get_or (choose p bits (set bits d b)) r false) ≡ not (eqb (choose q 0 (get_or (choose p registers (set registers d v)) r 0)) 0)
     at p true k = refl
     at true false k = k
-    at false false k = set_valid mapvalid mapregister d r b v l e k
+    at false false k = set_valid bits registers d r b v l e k
 
-choose_valid : (s : Bool) (mapvalid : List Bool) (mapregister : List ℕ) (d : ℕ) (b : Bool) (v : ℕ) → length mapvalid ≡ length mapregister → b ≡ not (eqb v 0)
-    → Valid mapvalid mapregister → Valid (choose s (store_under mapvalid d b) mapvalid) (choose s (store_under mapregister d v) mapregister)
-choose_valid true mapvalid mapregister d b v l e h = store_valid mapvalid mapregister d b v l e h
-choose_valid false mapvalid mapregister d b v l e h = h
+choose_valid : (s : Bool) (bits : List Bool) (registers : List ℕ) (d : ℕ) (b : Bool) (v : ℕ) → length bits ≡ length registers → b ≡ not (eqb v 0)
+    → Valid bits registers → Valid (choose s (store_under bits d b) bits) (choose s (store_under registers d v) registers)
+choose_valid true bits registers d b v l e h = store_valid bits registers d b v l e h
+choose_valid false bits registers d b v l e h = h
 
 choose_length : {A : Type 0} (s : Bool) (t : List A) (d : ℕ) (v : A) (n : ℕ) → length t ≡ n → length (choose s (store_under t d v) t) ≡ n
 choose_length true t d v n h = store_length t d v ∙ h
@@ -77,8 +77,8 @@ choose_length false t d v n h = h
 stored_length : {A : Type 0} (t : List A) (d : ℕ) (v : A) (n : ℕ) → length t ≡ n → length (store_under t d v) ≡ n
 stored_length t d v n h = store_length t d v ∙ h
 
-same_lengths : (m : Core) → Kept m → length m.mapvalid ≡ length m.mapregister
-same_lengths m k = k.mapvalid ∙ sym k.mapregister
+same_lengths : (m : Core) → Kept m → length m.map.valid ≡ length m.map.registers
+same_lengths m k = k.valid_bits ∙ sym k.registers
 
 module _ (m : Core) (k : Kept m) where
   pub kept_enter : (e : Entry) → m.count < m.setup.window → Kept (enter e m)
@@ -86,29 +86,29 @@ module _ (m : Core) (k : Kept m) where
   kept_enter e h =
       record {
         entries = length-set m.entries m.count e ∙ k.entries;
-        mapname = stored_length m.mapname e.destination e.name 32 k.mapname;
-        mapregister = stored_length m.mapregister e.destination 0 32 k.mapregister;
-        mapvalid = stored_length m.mapvalid e.destination false 32 k.mapvalid;
+        names = stored_length m.map.names e.destination e.name 32 k.names;
+        registers = stored_length m.map.registers e.destination 0 32 k.registers;
+        valid_bits = stored_length m.map.valid e.destination false 32 k.valid_bits;
         physical = k.physical;
         values = k.values;
-        registerlink = k.registerlink;
-        namelink = stored_length m.namelink e.name 0 96 k.namelink;
+        register_link = k.register_link;
+        name_link = stored_length m.free_names.link e.name 0 96 k.name_link;
         count = h;
         window = k.window;
-        valid = store_valid m.mapvalid m.mapregister e.destination false 0 (same_lengths m k) refl k.valid;
+        valid = store_valid m.map.valid m.map.registers e.destination false 0 (same_lengths m k) refl k.valid;
       }
 
   pub kept_place : (position : ℕ) (e : Entry) → Kept (place position e m)
   kept_place position e =
       record {
         entries = length-set m.entries position e ∙ k.entries;
-        mapname = k.mapname;
-        mapregister = k.mapregister;
-        mapvalid = k.mapvalid;
+        names = k.names;
+        registers = k.registers;
+        valid_bits = k.valid_bits;
         physical = k.physical;
         values = k.values;
-        registerlink = k.registerlink;
-        namelink = k.namelink;
+        register_link = k.register_link;
+        name_link = k.name_link;
         count = k.count;
         window = k.window;
         valid = k.valid;
@@ -121,16 +121,16 @@ module _ (m : Core) (k : Kept m) where
       let s : Bool = shows m e.destination e.name in
       record {
         entries = change_length (sleep_entry e.name) m.count (set m.entries victim (waiting_entry e)) ∙ length-set m.entries victim (waiting_entry e) ∙ k.entries;
-        mapname = k.mapname;
-        mapregister = choose_length s m.mapregister e.destination 0 32 k.mapregister;
-        mapvalid = choose_length s m.mapvalid e.destination false 32 k.mapvalid;
+        names = k.names;
+        registers = choose_length s m.map.registers e.destination 0 32 k.registers;
+        valid_bits = choose_length s m.map.valid e.destination false 32 k.valid_bits;
         physical = stored_length m.physical e.name 0 96 k.physical;
         values = k.values;
-        registerlink = k.registerlink;
-        namelink = k.namelink;
+        register_link = k.register_link;
+        name_link = k.name_link;
         count = k.count;
         window = k.window;
-        valid = choose_valid s m.mapvalid m.mapregister e.destination false 0 (same_lengths m k) refl k.valid;
+        valid = choose_valid s m.map.valid m.map.registers e.destination false 0 (same_lengths m k) refl k.valid;
       }
 
   pub kept_learned : (position register result : ℕ) → (register ≡ 0 → ⊥) → Kept (learned position register result m)
@@ -140,16 +140,16 @@ module _ (m : Core) (k : Kept m) where
       let s : Bool = shows m e.destination e.name in
       record {
         entries = change_length (wake_entry e.name register) m.count (set m.entries position (completed_entry result e)) ∙ length-set m.entries position (completed_entry result e) ∙ k.entries;
-        mapname = k.mapname;
-        mapregister = choose_length s m.mapregister e.destination register 32 k.mapregister;
-        mapvalid = choose_length s m.mapvalid e.destination true 32 k.mapvalid;
+        names = k.names;
+        registers = choose_length s m.map.registers e.destination register 32 k.registers;
+        valid_bits = choose_length s m.map.valid e.destination true 32 k.valid_bits;
         physical = stored_length m.physical e.name register 96 k.physical;
         values = stored_length m.values register result 96 k.values;
-        registerlink = stored_length m.registerlink m.registerhead 0 96 k.registerlink;
-        namelink = k.namelink;
+        register_link = stored_length m.free_registers.link m.free_registers.head 0 96 k.register_link;
+        name_link = k.name_link;
         count = k.count;
         window = k.window;
-        valid = choose_valid s m.mapvalid m.mapregister e.destination true register (same_lengths m k) (rw (ne_eqb register 0 h)) k.valid;
+        valid = choose_valid s m.map.valid m.map.registers e.destination true register (same_lengths m k) (rw (ne_eqb register 0 h)) k.valid;
       }
 
   pub kept_drop : Kept (drop_youngest m)
@@ -159,16 +159,16 @@ module _ (m : Core) (k : Kept m) where
       let back : ℕ = look_up (store_under m.physical e.name 0) e.previous in
       record {
         entries = length-set m.entries (m.count - 1) empty_entry ∙ k.entries;
-        mapname = stored_length m.mapname e.destination e.previous 32 k.mapname;
-        mapregister = stored_length m.mapregister e.destination back 32 k.mapregister;
-        mapvalid = stored_length m.mapvalid e.destination (not (eqb back 0)) 32 k.mapvalid;
+        names = stored_length m.map.names e.destination e.previous 32 k.names;
+        registers = stored_length m.map.registers e.destination back 32 k.registers;
+        valid_bits = stored_length m.map.valid e.destination (not (eqb back 0)) 32 k.valid_bits;
         physical = stored_length m.physical e.name 0 96 k.physical;
         values = k.values;
-        registerlink = stored_length m.registerlink _ m.registerhead 96 k.registerlink;
-        namelink = stored_length m.namelink e.name m.namehead 96 k.namelink;
+        register_link = stored_length m.free_registers.link _ m.free_registers.head 96 k.register_link;
+        name_link = stored_length m.free_names.link e.name m.free_names.head 96 k.name_link;
         count = let c = k.count in omega arith;
         window = k.window;
-        valid = store_valid m.mapvalid m.mapregister e.destination (not (eqb back 0)) back (same_lengths m k) refl k.valid;
+        valid = store_valid m.map.valid m.map.registers e.destination (not (eqb back 0)) back (same_lengths m k) refl k.valid;
       }
 
   pub kept_refetched : (position next : ℕ) → Kept (refetched position next m)
@@ -176,13 +176,13 @@ module _ (m : Core) (k : Kept m) where
   kept_refetched position next =
       record {
         entries = length-set m.entries position _ ∙ k.entries;
-        mapname = k.mapname;
-        mapregister = k.mapregister;
-        mapvalid = k.mapvalid;
+        names = k.names;
+        registers = k.registers;
+        valid_bits = k.valid_bits;
         physical = k.physical;
         values = k.values;
-        registerlink = k.registerlink;
-        namelink = k.namelink;
+        register_link = k.register_link;
+        name_link = k.name_link;
         count = k.count;
         window = k.window;
         valid = k.valid;
@@ -193,13 +193,13 @@ module _ (m : Core) (k : Kept m) where
   kept_halted why =
       record {
         entries = k.entries;
-        mapname = k.mapname;
-        mapregister = k.mapregister;
-        mapvalid = k.mapvalid;
+        names = k.names;
+        registers = k.registers;
+        valid_bits = k.valid_bits;
         physical = k.physical;
         values = k.values;
-        registerlink = k.registerlink;
-        namelink = k.namelink;
+        register_link = k.register_link;
+        name_link = k.name_link;
         count = k.count;
         window = k.window;
         valid = k.valid;
@@ -224,13 +224,13 @@ kept_retired m k h =
     let l = k.entries in
     record {
       entries = moved_length m.count m.entries h (omega arith) ∙ k.entries;
-      mapname = k.mapname;
-      mapregister = k.mapregister;
-      mapvalid = k.mapvalid;
+      names = k.names;
+      registers = k.registers;
+      valid_bits = k.valid_bits;
       physical = stored_length m.physical e.previous 0 96 k.physical;
       values = k.values;
-      registerlink = stored_length m.registerlink _ m.registerhead 96 k.registerlink;
-      namelink = stored_length m.namelink e.previous m.namehead 96 k.namelink;
+      register_link = stored_length m.free_registers.link _ m.free_registers.head 96 k.register_link;
+      name_link = stored_length m.free_names.link e.previous m.free_names.head 96 k.name_link;
       count = omega arith;
       window = k.window;
       valid = k.valid;
@@ -284,13 +284,13 @@ unfolding rising_link
 kept_fresh s h =
     record {
       entries = refl;
-      mapname = refl;
-      mapregister = refl;
-      mapvalid = refl;
+      names = refl;
+      registers = refl;
+      valid_bits = refl;
       physical = refl;
       values = refl;
-      registerlink = tabulate_length 96 0 (rising_next s.registers);
-      namelink = tabulate_length 96 0 (rising_next (31 + s.window));
+      register_link = tabulate_length 96 0 (rising_next s.registers);
+      name_link = tabulate_length 96 0 (rising_next (31 + s.window));
       count = omega arith;
       window = h;
       valid = fresh_valid;

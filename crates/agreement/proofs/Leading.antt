@@ -18,7 +18,7 @@ use Rattle.completing.specs.Complete.{complete_refusal, completed, complete_of}
 use Rattle.committing.specs.Commit.{commit_refusal, committed, written_by, Commit, commit_by, commit_of}
 use Rattle.window.specs.Drain.{Drain, idle, drain_ends, drain_from, drain_of}
 use Rattle.renaming.specs.declared.Core.{Core}
-use Rattle.renaming.specs.declared.Answer.{Answer}
+use Rattle.renaming.specs.Answer.{Answer}
 use Rattle.renaming.proofs.RefusalLaws.{lent_first}
 use Rattle.window.specs.Calls.{World, Made, made_by, call_of, make, needed_by, needed_of}
 use Rattle.agreement.specs.Drained.{Leads}

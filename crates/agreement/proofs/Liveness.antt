@@ -21,7 +21,6 @@ use Rattle.agreement.proofs.Invariant.{Invariant}
 use Rattle.agreement.proofs.Tests.{equal, apart, eq?}
 use Rattle.agreement.proofs.Counting.{same, alike, other, same?}
 use Rattle.agreement.proofs.RegisterPools.{pool_empty}
-use Rattle.agreement.proofs.Every.{all_at}
 use Rattle.agreement.proofs.Walks.{renamed_at}
 use Rattle.agreement.proofs.Learn.{no_register}
 
@@ -68,10 +67,10 @@ module _ (p : List ℕ) (s : State) (c : View) (invariant : Invariant p s c) whe
     renamed = renamed_at invariant.ghost invariant.committed c.entries 0 some invariant.accounting.renamed
 
     shown : ShownIn c.physical e
-    shown = all_at (ShownIn c.physical) c.entries empty_entry 0 some invariant.accounting.contents.shown
+    shown = invariant.accounting.contents.shown 0 empty_entry some
 
     holds : HoldsIn c.physical e
-    holds = all_at (HoldsIn c.physical) c.entries empty_entry 0 some invariant.accounting.contents.holds
+    holds = invariant.accounting.contents.holds 0 empty_entry some
 
     operand_ready : (o : Operand) (r : ℕ) → r < 32 → o ≡ operand_for (name_in o) (get_or c.physical (name_in o) 0) → name_in o ≡ get_or invariant.committed r 0 → is_ready o ≡ true
     unfolding operand_for
@@ -93,7 +92,7 @@ module _ (p : List ℕ) (s : State) (c : View) (invariant : Invariant p s c) whe
     right_ready = operand_ready e.right (second_source e.instruction) renamed.second shown.right renamed.right
 
     -- with none free, a younger entry holds a register
-    pub holder : e.state ≢ Completed → c.registerhead ≡ 0 → Holder c 0
+    pub holder : e.state ≢ Completed → c.free_registers.head ≡ 0 → Holder c 0
     holder now none =
         let r : (j : ℕ) × (j < length registers) × (get_or registers j 0 ≢ 0) = some_nonzero registers enough in
         found r.0 r.1 r.2
@@ -111,7 +110,7 @@ module _ (p : List ℕ) (s : State) (c : View) (invariant : Invariant p s c) whe
           invariant.accounting.live.count,
           invariant.accounting.enough,
           length-map (map name_of c.entries) (register_of c.physical),
-          pool_empty c.setup.registers c.physical c.registerhead c.registerlink invariant.accounting.free_registers invariant.accounting.register_pool none,
+          pool_empty c.setup.registers c.physical c.free_registers.head c.free_registers.link invariant.accounting.free_registers invariant.accounting.register_pool none,
         )
 
         found : (j : ℕ) → j < length registers → get_or registers j 0 ≢ 0 → Holder c 0
@@ -124,7 +123,7 @@ module _ (p : List ℕ) (s : State) (c : View) (invariant : Invariant p s c) whe
                 position = j;
                 younger = omega arith;
                 within = l;
-                completed = holder_completed c.physical (get_or c.entries j empty_entry) (all_at (HoldsIn c.physical) c.entries empty_entry j l invariant.accounting.contents.holds) b;
+                completed = holder_completed c.physical (get_or c.entries j empty_entry) (invariant.accounting.contents.holds j empty_entry l) b;
                 has = b;
               }
             ]

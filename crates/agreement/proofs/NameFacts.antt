@@ -8,17 +8,17 @@ use lib.ListN.{length, get_or, length-map, get_or-map}
 use Rattle.tables.specs.FreeList.{occurrences}
 use Rattle.tables.specs.Entry.{empty_entry}
 use Rattle.tables.specs.declared.Entry.{Entry}
-use Rattle.agreement.proofs.Contents.{All}
+use Rattle.std.specs.List.{All}
+use Rattle.std.proofs.lemmas.List.Elements.{All-from_get_or}
 use Rattle.agreement.proofs.Pools.{name_of, NamePool}
 use Rattle.agreement.proofs.Counting.{count_is, count_once}
 use Rattle.agreement.proofs.NamePools.{name_most, name_range}
-use Rattle.agreement.proofs.Every.{all_make}
 
 pub count_name : (es : List Entry) (i k : ℕ) → (get_or es i empty_entry).name ≡ k → k ≢ 0 → 1 ≤ occurrences k (map name_of es)
 count_name es i k e z = count_is (map name_of es) i k (get_or-map name_of es i empty_entry ∙ e) z
 
 pub no_name : (es : List Entry) (k : ℕ) → k ≢ 0 → occurrences k (map name_of es) ≡ 0 → All (λ e. e.name ≢ k) es
-no_name es k z o = all_make (λ e. e.name ≢ k) es empty_entry (λ i h e. omega (arith, count_name es i k e z))
+no_name es k z o = All-from_get_or (λ e. e.name ≢ k) es empty_entry (λ i h e. omega (arith, count_name es i k e z))
 
 module _ (window : ℕ) (committed : List ℕ) (es : List Entry) (head : ℕ) (link free : List ℕ) (pool : NamePool window committed (map name_of es) head link free) where
   pub entry_range : (i : ℕ) → (get_or es i empty_entry).name ≤ 31 + window

@@ -5,16 +5,14 @@ use mathlib.Core.Logic.{◌≢◌}
 use mathlib.Core.List.{List, [], ◌∷◌, ◌++◌}
 use native.Mathlib.Omega.{arith}
 use native.Mathlib.Decide.{dec_le}
-use lib.ListN.{length, get_or, set, length-set, length-append}
+use lib.ListN.{length, get_or, set, length-set}
 use lib.Seq.{get_or-set_other}
+use Rattle.std.proofs.lemmas.List.{length_push}
 use Rattle.tables.specs.FreeList.{occurrences}
 use Rattle.agreement.proofs.View.{put_head, put_link}
 use Rattle.agreement.proofs.Pools.{NamePool}
 use Rattle.agreement.proofs.Counting.{same, same_refl, same_not, count_set, count_is, count_last, spells_head, spells_take, spells_free, outside_take, outside_free}
 use Rattle.agreement.proofs.RegisterPools.{put_free}
-
-pub length_last : (n : ℕ) (names : List ℕ) → length (names ++ n ∷ []) ≡ length names + 1
-length_last n names = omega (arith, length-append names (n ∷ []))
 
 module _ (window : ℕ) (committed names : List ℕ) (head : ℕ) (link free : List ℕ) (pool : NamePool window committed names head link free) where
   pub name_most : (k : ℕ) → 1 ≤ k → occurrences k free + occurrences k committed + occurrences k names ≤ 1
@@ -40,7 +38,7 @@ module _ (window : ℕ) (committed names : List ℕ) (head : ℕ) (link free : L
     zero_free = pool.zero_free;
     zero_link = pool.zero_link;
     zero_name = pool.zero_name;
-    count = omega (arith, pool.count, count_last 0 0 names, same_refl 0, length_last 0 names);
+    count = omega (arith, pool.count, count_last 0 0 names, same_refl 0, length_push names 0);
     bound = pool.bound;
     room = pool.room;
     outside = pool.outside;
@@ -78,7 +76,7 @@ module _ (window : ℕ) (committed names : List ℕ) (head : ℕ) (link : List �
         zero_free = omega (arith, pool.zero_free);
         zero_link = get_or-set_other link y 0 0 0 (λ e. z (sym e)) ∙ pool.zero_link;
         zero_name = pool.zero_name;
-        count = omega (arith, pool.count, count_last 0 y names, same_not 0 y (λ e. z (sym e)), length_last y names);
+        count = omega (arith, pool.count, count_last 0 y names, same_not 0 y (λ e. z (sym e)), length_push names y);
         bound = pool.bound;
         room = length-set link y 0 ∙ pool.room;
         outside = outside_take link y free pool.outside;
@@ -95,7 +93,7 @@ name_drop window committed names head link free zero pool = record {
   zero_free = pool.zero_free;
   zero_link = pool.zero_link;
   zero_name = pool.zero_name;
-  count = omega (arith, pool.count, count_last 0 0 names, same_refl 0, length_last 0 names);
+  count = omega (arith, pool.count, count_last 0 0 names, same_refl 0, length_push names 0);
   bound = pool.bound;
   room = pool.room;
   outside = pool.outside;
@@ -110,7 +108,7 @@ name_drop window committed names head link free (suc n) pool =
       zero_free = omega (arith, pool.zero_free, same_not 0 (suc n) (omega arith));
       zero_link = get_or-set_other link (suc n) 0 head 0 (omega arith) ∙ pool.zero_link;
       zero_name = pool.zero_name;
-      count = omega (arith, pool.count, count_last 0 (suc n) names, same_not 0 (suc n) (omega arith), length_last (suc n) names);
+      count = omega (arith, pool.count, count_last 0 (suc n) names, same_not 0 (suc n) (omega arith), length_push names (suc n));
       bound = pool.bound;
       room = length-set link (suc n) head ∙ pool.room;
       outside = outside_free link (suc n) head free pool.outside;

@@ -96,7 +96,7 @@ module _ (program : List ℕ) (start : State) (n : ℕ) (w : World) (l : Lively 
   supplied : At m 0 Issued → Supplied m 0
   supplied a = elim (eq? (entry_at m 0).destination 0) [
     | equal e t ↦ needless e
-    | apart e t ↦ elim (eq? m.registerhead 0) [
+    | apart e t ↦ elim (eq? m.free_registers.head 0) [
       | equal z u ↦ from (holder program l.state c l.invariant (inside a.there) (λ q. early q) z)
       | apart z u ↦ free z
     ]

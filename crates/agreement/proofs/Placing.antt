@@ -14,7 +14,7 @@ use Rattle.agreement.proofs.Chains.{Renaming, renaming_of, execution_of, Execute
 use Rattle.agreement.proofs.Contents.{ShownIn, HoldsIn}
 use Rattle.agreement.proofs.Pools.{name_of}
 use Rattle.agreement.proofs.Invariant.{Accounting, Invariant}
-use Rattle.agreement.proofs.Every.{all_set}
+use Rattle.std.proofs.lemmas.List.Elements.{All-set}
 use Rattle.agreement.proofs.Walks.{state_at, executed_set, state_set}
 
 pub placed_accounted : (g : Ghost) (m : List ℕ) (c : View) (i : ℕ) (x : Entry) → Accounting g m c → i < length c.entries → renaming_of x ≡ renaming_of (get_or c.entries i empty_entry)
@@ -28,8 +28,8 @@ placed_accounted g m c i x accounting inside l sx hx =
       writers = accounting.writers;
       renamed = rw renamings accounting.renamed;
       contents = record {
-        shown = all_set (ShownIn c.physical) (ShownIn c.physical) c.entries empty_entry i x sx (λ j a b y. y) accounting.contents.shown;
-        holds = all_set (HoldsIn c.physical) (HoldsIn c.physical) c.entries empty_entry i x hx (λ j a b y. y) accounting.contents.holds;
+        shown = All-set (ShownIn c.physical) c.entries i x sx accounting.contents.shown;
+        holds = All-set (HoldsIn c.physical) c.entries i x hx accounting.contents.holds;
         valued = accounting.contents.valued;
       };
       register_pool = accounting.register_pool;

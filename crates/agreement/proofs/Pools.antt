@@ -6,7 +6,7 @@ use mathlib.Core.List.{List, map}
 use lib.ListN.{length, get_or}
 use Rattle.tables.specs.FreeList.{Spells, occurrences}
 use Rattle.tables.specs.declared.Entry.{Entry}
-use Rattle.agreement.proofs.Contents.{All}
+use Rattle.std.specs.List.{All}
 
 abbrev pub name_of : Entry → ℕ
 name_of e = e.name

@@ -36,7 +36,7 @@ use Rattle.decoding.specs.Decode.{entering_stop}
 use Rattle.agreement.proofs.View.{View, operand_for, name_in}
 use Rattle.agreement.proofs.Ghost.{Ghost}
 use Rattle.agreement.proofs.Chains.{renaming_of, Renamed, last_names, execution_of, Status, waits, reads, done, stops, Executes}
-use Rattle.agreement.proofs.Contents.{All, ShownIn}
+use Rattle.agreement.proofs.Contents.{ShownIn}
 use Rattle.agreement.proofs.Invariant.{Accounting, Invariant, Emptied}
 use Rattle.agreement.proofs.Tests.{equal, apart, eq?, by_choice}
 use Rattle.agreement.proofs.Counting.{count_is}
@@ -44,7 +44,8 @@ use Rattle.agreement.proofs.RegisterPools.{register_range}
 use Rattle.agreement.proofs.NamePools.{name_range}
 use Rattle.agreement.proofs.NameFacts.{entry_range}
 use Rattle.agreement.proofs.Pools.{name_of}
-use Rattle.agreement.proofs.Every.{all_at, all_make, all_take}
+use Rattle.std.specs.List.{All}
+use Rattle.std.proofs.lemmas.List.Elements.{All-tail, All-from_get_or, All-take}
 use Rattle.agreement.proofs.Walks.{names_at, state_at, executes_at, last_length}
 use Rattle.agreement.proofs.Steps.{step_executable}
 use Rattle.agreement.proofs.Stores.{look_get}
@@ -90,9 +91,9 @@ range_set table d v limit h f r = elim (eq? r d) [
 
 -- the names behind entries are those before them or the entries' own
 names_range : (limit : ℕ) (m : List ℕ) (es : List Entry) → ((r : ℕ) → get_or m r 0 ≤ limit) → All (λ e. e.name ≤ limit) es → (r : ℕ) → get_or (last_names m (map renaming_of es)) r 0 ≤ limit
-unfolding last_names All
+unfolding last_names
 names_range limit m [] f a r = f r
-names_range limit m (e ∷ es) f a r = names_range limit (set m e.destination e.name) es (range_set m e.destination e.name limit a.0 f) a.1 r
+names_range limit m (e ∷ es) f a r = names_range limit (set m e.destination e.name) es (range_set m e.destination e.name limit (a 0 e (omega arith)) f) (All-tail (λ x. x.name ≤ limit) e es a) r
 
 -- what the accounting says of the tables
 module _ (g : Ghost) (m : List ℕ) (c : View) (accounting : Accounting g m c) where
@@ -100,10 +101,10 @@ module _ (g : Ghost) (m : List ℕ) (c : View) (accounting : Accounting g m c) w
   limit = 31 + c.setup.window
 
   register_free_range : (k : ℕ) → 1 ≤ occurrences k accounting.free_registers → k ≤ c.setup.registers
-  register_free_range k h = register_range c.setup.registers c.physical c.registerhead c.registerlink accounting.free_registers accounting.register_pool k (omega arith)
+  register_free_range k h = register_range c.setup.registers c.physical c.free_registers.head c.free_registers.link accounting.free_registers accounting.register_pool k (omega arith)
 
   name_free_range : (k : ℕ) → 1 ≤ occurrences k accounting.free_names → k ≤ limit
-  name_free_range k h = name_range c.setup.window m (map name_of c.entries) c.namehead c.namelink accounting.free_names accounting.name_pool k (omega arith)
+  name_free_range k h = name_range c.setup.window m (map name_of c.entries) c.free_names.head c.free_names.link accounting.free_names accounting.name_pool k (omega arith)
 
   physical_range : (k : ℕ) → get_or c.physical k 0 ≤ c.setup.registers
   physical_range k = cases (get_or c.physical k 0) refl
@@ -112,7 +113,7 @@ module _ (g : Ghost) (m : List ℕ) (c : View) (accounting : Accounting g m c) w
       cases zero e = omega arith
       cases (suc v) e =
           let o = count_is c.physical k (suc v) e (λ z. omega arith) in
-          register_range c.setup.registers c.physical c.registerhead c.registerlink accounting.free_registers accounting.register_pool (suc v) (omega arith)
+          register_range c.setup.registers c.physical c.free_registers.head c.free_registers.link accounting.free_registers accounting.register_pool (suc v) (omega arith)
 
   committed_range : (r : ℕ) → get_or m r 0 ≤ limit
   committed_range r = cases (get_or m r 0) refl
@@ -121,19 +122,19 @@ module _ (g : Ghost) (m : List ℕ) (c : View) (accounting : Accounting g m c) w
       cases zero e = omega arith
       cases (suc v) e =
           let o = count_is m r (suc v) e (λ z. omega arith) in
-          name_range c.setup.window m (map name_of c.entries) c.namehead c.namelink accounting.free_names accounting.name_pool (suc v) (omega arith)
+          name_range c.setup.window m (map name_of c.entries) c.free_names.head c.free_names.link accounting.free_names accounting.name_pool (suc v) (omega arith)
 
   name_at : (i : ℕ) → (get_or c.entries i empty_entry).name ≤ limit
-  name_at i = entry_range c.setup.window m c.entries c.namehead c.namelink accounting.free_names accounting.name_pool i
+  name_at i = entry_range c.setup.window m c.entries c.free_names.head c.free_names.link accounting.free_names accounting.name_pool i
 
   all_names : All (λ e. e.name ≤ limit) c.entries
-  all_names = all_make (λ e. e.name ≤ limit) c.entries empty_entry (λ i h. name_at i)
+  all_names = All-from_get_or (λ e. e.name ≤ limit) c.entries empty_entry (λ i h. name_at i)
 
   names_at_lem : (i r : ℕ) → get_or (names_at m c.entries i) r 0 ≤ limit
-  names_at_lem i r = names_range limit m (take i c.entries) committed_range (all_take (λ e. e.name ≤ limit) c.entries i all_names) r
+  names_at_lem i r = names_range limit m (take i c.entries) committed_range (All-take (λ e. e.name ≤ limit) i c.entries all_names) r
 
   shown_at : (i : ℕ) → i < length c.entries → ShownIn c.physical (get_or c.entries i empty_entry)
-  shown_at i h = all_at (ShownIn c.physical) c.entries empty_entry i h accounting.contents.shown
+  shown_at i h = accounting.contents.shown i empty_entry h
 
   operand_range : (o : Operand) (n : ℕ) → o ≡ operand_for (name_in o) (get_or c.physical (name_in o) 0) → name_in o ≡ n → n ≤ limit → operand_in_range limit c.setup.registers o ≡ true
   operand_range o n e q h =
@@ -143,11 +144,11 @@ module _ (g : Ghost) (m : List ℕ) (c : View) (accounting : Accounting g m c) w
   accounted_range s h entries =
       record {
         setup = s;
-        registerhead = spells_range c.registerlink c.registerhead c.setup.registers accounting.free_registers accounting.register_pool.spells register_free_range;
-        registerlink = link_range c.registerlink c.registerhead c.setup.registers accounting.free_registers accounting.register_pool.spells register_free_range
+        register_head = spells_range c.free_registers.link c.free_registers.head c.setup.registers accounting.free_registers accounting.register_pool.spells register_free_range;
+        register_link = link_range c.free_registers.link c.free_registers.head c.setup.registers accounting.free_registers accounting.register_pool.spells register_free_range
             accounting.register_pool.zero_link accounting.register_pool.outside;
-        namehead = spells_range c.namelink c.namehead limit accounting.free_names accounting.name_pool.spells name_free_range;
-        namelink = link_range c.namelink c.namehead limit accounting.free_names accounting.name_pool.spells name_free_range accounting.name_pool.zero_link accounting.name_pool.outside;
+        name_head = spells_range c.free_names.link c.free_names.head limit accounting.free_names accounting.name_pool.spells name_free_range;
+        name_link = link_range c.free_names.link c.free_names.head limit accounting.free_names accounting.name_pool.spells name_free_range accounting.name_pool.zero_link accounting.name_pool.outside;
         physical = physical_range;
         names = λ r. subst (λ (l : List ℕ). get_or l r 0 ≤ limit) (sym accounting.shows) (names_range limit m c.entries committed_range all_names r);
         registers = λ r. subst (λ (x : ℕ). x ≤ c.setup.registers) (sym (accounting.general.gives r)) (physical_range (get_or c.names r 0));

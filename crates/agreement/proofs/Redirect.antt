@@ -13,10 +13,8 @@ use Rattle.tables.specs.declared.Entry.{Entry}
 use Rattle.agreement.proofs.View.{View, drops_to, placed, steer, redirect}
 use Rattle.agreement.proofs.Ghost.{Ghost, Agree}
 use Rattle.agreement.proofs.Chains.{Execution, execution_of, Executes, ExecutionChain, last_state}
-use Rattle.agreement.proofs.Contents.{ShownIn, HoldsIn}
 use Rattle.agreement.proofs.Invariant.{Accounting, Invariant}
 use Rattle.agreement.proofs.Tests.{by_choice}
-use Rattle.agreement.proofs.Every.{all_at}
 use Rattle.agreement.proofs.Walks.{state_at, executed_set, state_set, executed_take, executed_append, last_address}
 use Rattle.agreement.proofs.Placing.{placed_accounted, steer_accounted}
 use Rattle.agreement.proofs.Drop.{drops_accounted, drops_entries}
@@ -108,8 +106,8 @@ module _ (p : List ℕ) (g : Ghost) (m : List ℕ) (s : State) (b c : View) (i n
         ghost = g;
         committed = m;
         accounting = steer_accounted g m (placed i y d) n d.next d.halt
-            (placed_accounted g m d i y accounting_d there refl (all_at (ShownIn d.physical) d.entries empty_entry i there accounting_d.contents.shown)
-            (all_at (HoldsIn d.physical) d.entries empty_entry i there accounting_d.contents.holds));
+            (placed_accounted g m d i y accounting_d there refl (accounting_d.contents.shown i empty_entry there)
+            (accounting_d.contents.holds i empty_entry there));
         agree = agree;
         executed = rw end (executed_append p g s (take i b.entries) z (executed_take p g s b.entries i executed) completes);
         next = drops_next (suc i) (length c.entries - suc i) c ∙ next;

@@ -13,12 +13,11 @@ use Rattle.renaming.specs.Drop.{drop_to}
 use Rattle.renaming.specs.Report.{value_in, values_in}
 use Rattle.window.specs.Report.{report_of}
 use Rattle.renaming.specs.declared.Core.{Core}
-use Rattle.window.proofs.ReportLaws.{report_given}
 use Rattle.renaming.proofs.TabulateLaws.{tabulate_length, tabulate_at}
 
 -- x0 shows no register, and no register has value 0
 zero_value_lem : (m : Core) → value_in m 0 ≡ 0
-zero_value_lem m = ap (look_up m.values) (sym (look_zero m.mapregister 0 refl)) ∙ sym (look_zero m.values 0 refl)
+zero_value_lem m = ap (look_up m.values) (sym (look_zero m.map.registers 0 refl)) ∙ sym (look_zero m.values 0 refl)
 
 value_at : (m : Core) (registers : List ℕ) → get_or registers 0 0 ≡ 0 → ((r : ℕ) → 1 ≤ r → r < 32 → value_in m r ≡ get_or registers r 0) → (r : ℕ) → r < 32 → value_in m r ≡ get_or registers r 0
 value_at m registers z f zero h = zero_value_lem m ∙ sym z
@@ -32,4 +31,5 @@ values_are m registers l z f =
 
 pub report_is : (m : Core) (registers : List ℕ) → machine_in_range m ≡ true → length registers ≡ 32 → get_or registers 0 0 ≡ 0
     → ((r : ℕ) → 1 ≤ r → r < 32 → value_in (drop_to 0 m) r ≡ get_or registers r 0) → report_of m ≡ record { registers = registers; number = 0 }
-report_is m registers i l z f = sym (report_given m i) ∙ ap (λ (v : List ℕ). record { registers = v; number = 0 }) (values_are (drop_to 0 m) registers l z f)
+unfolding report_of
+report_is m registers i l z f = rw i (ap (λ (v : List ℕ). record { registers = v; number = 0 }) (values_are (drop_to 0 m) registers l z f))

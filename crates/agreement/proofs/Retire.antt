@@ -12,7 +12,7 @@ use Rattle.tables.specs.declared.Entry.{Entry}
 use Rattle.agreement.proofs.View.{View, put_head, put_link, retire}
 use Rattle.agreement.proofs.Ghost.{Ghost}
 use Rattle.agreement.proofs.Chains.{renaming_of, Renamed, RenameChain, last_names}
-use Rattle.agreement.proofs.Contents.{All, ShownIn, HoldsIn, GeneralMap}
+use Rattle.agreement.proofs.Contents.{ShownIn, HoldsIn, GeneralMap}
 use Rattle.agreement.proofs.Pools.{name_of, NamePool, Live}
 use Rattle.agreement.proofs.Invariant.{Accounting}
 use Rattle.agreement.proofs.Tests.{Eq?, equal, apart, eq?}
@@ -20,8 +20,8 @@ use Rattle.agreement.proofs.Counting.{same, same_refl, count_is}
 use Rattle.agreement.proofs.RegisterPools.{put_free, register_free}
 use Rattle.agreement.proofs.NamePools.{name_most, name_range, name_commit, name_commit_none}
 use Rattle.agreement.proofs.LiveLaws.{set_zero, live_commit, live_commit_none}
-use Rattle.agreement.proofs.Every.{all_both, all_under}
-use Rattle.agreement.proofs.Walks.{writers_next, Lacks, lacks_last, lacks_all}
+use Rattle.std.specs.List.{All}
+use Rattle.agreement.proofs.Walks.{writers_next, lacks_last, lacks_all}
 use Rattle.agreement.proofs.ContentLaws.{clear_other, shown_clear, holds_clear, valued_clear}
 use Rattle.agreement.proofs.NameFacts.{no_name}
 
@@ -42,7 +42,7 @@ module _ (g : Ghost) (m : List ℕ) (c : View) (accounting : Accounting g m c) (
   unfolding RenameChain
   renamings = rw is at accounting.renamed
 
-  pool : NamePool c.setup.window m (e.name ∷ map name_of es) c.namehead c.namelink accounting.free_names
+  pool : NamePool c.setup.window m (e.name ∷ map name_of es) c.free_names.head c.free_names.link accounting.free_names
   pool = rw is at accounting.name_pool
 
   lives : Live c.physical m (e.name ∷ map name_of es) accounting.free_names
@@ -67,7 +67,7 @@ module _ (g : Ghost) (m : List ℕ) (c : View) (accounting : Accounting g m c) (
       register y = lives.kept d (omega arith) renamings.0.small (cc (was, zero_register_lem))
 
   gone : old ≢ 0 → (occurrences old accounting.free_names ≡ 0) × (occurrences old (e.name ∷ map name_of es) ≡ 0)
-  gone z = omega (arith, name_most c.setup.window m (e.name ∷ map name_of es) c.namehead c.namelink accounting.free_names pool old (omega arith), count_is m d old (sym was) z)
+  gone z = omega (arith, name_most c.setup.window m (e.name ∷ map name_of es) c.free_names.head c.free_names.link accounting.free_names pool old (omega arith), count_is m d old (sym was) z)
 
   apart_name : old ≢ 0 → e.name ≢ old
   unfolding occurrences same
@@ -99,7 +99,7 @@ module _ (g : Ghost) (m : List ℕ) (c : View) (accounting : Accounting g m c) (
         arith,
         accounting.physical_room,
         accounting.name_pool.bound,
-        name_range c.setup.window m (e.name ∷ map name_of es) c.namehead c.namelink accounting.free_names pool (suc o) (omega (arith, count_is m d (suc o) (sym was ∙ q) (omega arith))),
+        name_range c.setup.window m (e.name ∷ map name_of es) c.free_names.head c.free_names.link accounting.free_names pool (suc o) (omega (arith, count_is m d (suc o) (sym was ∙ q) (omega arith))),
       )
 
   -- an entry without a destination
@@ -113,13 +113,13 @@ module _ (g : Ghost) (m : List ℕ) (c : View) (accounting : Accounting g m c) (
       zeroed (equal a t) = a
       zeroed (apart a t) = absurd (some_old a q)
 
-  retire_names : NamePool c.setup.window m' (map name_of es) (put_head old c.namehead) (put_link old c.namehead c.namelink) (put_free old accounting.free_names)
+  retire_names : NamePool c.setup.window m' (map name_of es) (put_head old c.free_names.head) (put_link old c.free_names.head c.free_names.link) (put_free old accounting.free_names)
   unfolding put_head put_link put_free
   retire_names = go old refl
     where
-      go : (o : ℕ) → old ≡ o → NamePool c.setup.window m' (map name_of es) (put_head o c.namehead) (put_link o c.namehead c.namelink) (put_free o accounting.free_names)
-      go zero q = rw (nameless q).1 (name_commit_none c.setup.window m (map name_of es) c.namehead c.namelink accounting.free_names (rw (nameless q).0 at pool))
-      go (suc o) q = name_commit c.setup.window m (map name_of es) c.namehead c.namelink accounting.free_names e.name d o pool (omega (arith, renamings.0.small, accounting.writers.size))
+      go : (o : ℕ) → old ≡ o → NamePool c.setup.window m' (map name_of es) (put_head o c.free_names.head) (put_link o c.free_names.head c.free_names.link) (put_free o accounting.free_names)
+      go zero q = rw (nameless q).1 (name_commit_none c.setup.window m (map name_of es) c.free_names.head c.free_names.link accounting.free_names (rw (nameless q).0 at pool))
+      go (suc o) q = name_commit c.setup.window m (map name_of es) c.free_names.head c.free_names.link accounting.free_names e.name d o pool (omega (arith, renamings.0.small, accounting.writers.size))
           (some_register (omega arith)) (some_name (omega arith)) (sym was ∙ q)
 
   retire_live : (e.name ≢ 0 → get_or c.physical e.name 0 ≢ 0) → Live physical' m' (map name_of es) (put_free old accounting.free_names)
@@ -143,15 +143,12 @@ module _ (g : Ghost) (m : List ℕ) (c : View) (accounting : Accounting g m c) (
   tail_holds = rw is at accounting.contents.holds
 
   shown_after : All (ShownIn physical') es
-  unfolding All
-  shown_after = all_both (λ x. old ≢ 0 → Lacks old x) (ShownIn c.physical) (ShownIn physical') es (λ x l s. shown_clear c.physical old x zero_register_lem l s)
-      (all_under (Lacks old) es (old ≢ 0) (λ z. lacks_all g old m' es (lost z) (others z) renamings.1)) tail_shown.1
+  shown_after i d h = shown_clear c.physical old (get_or es i d) zero_register_lem (λ z. lacks_all g old m' es (lost z) (others z) renamings.1 i d h) (tail_shown (suc i) d (omega arith))
 
   holds_after : All (HoldsIn physical') es
-  unfolding All
-  holds_after = all_both (λ x. old ≢ 0 → x.name ≢ old) (HoldsIn c.physical) (HoldsIn physical') es
-      (λ x l s. holds_clear c.physical old x.state x.stop.cause x.name (clear_other c.physical old x.name zero_register_lem l) s)
-      (all_under (λ x. x.name ≢ old) es (old ≢ 0) others) tail_holds.1
+  holds_after i d h =
+      let x : Entry = get_or es i d in
+      holds_clear c.physical old x.state x.stop.cause x.name (clear_other c.physical old x.name zero_register_lem (λ z. others z i d h)) (tail_holds (suc i) d (omega arith))
 
   names_now : c.names ≡ last_names m' (map renaming_of es)
   unfolding last_names
@@ -172,7 +169,7 @@ module _ (g : Ghost) (m : List ℕ) (c : View) (accounting : Accounting g m c) (
     writers = writers_next g m e accounting.writers renamings.0;
     renamed = renamings.1;
     contents = record { shown = shown_after; holds = holds_after; valued = valued_clear g c.physical c.values old accounting.contents.valued };
-    register_pool = register_free c.setup.registers c.physical c.registerhead c.registerlink accounting.free_registers old (get_or c.physical old 0) accounting.register_pool range_old refl;
+    register_pool = register_free c.setup.registers c.physical c.free_registers.head c.free_registers.link accounting.free_registers old (get_or c.physical old 0) accounting.register_pool range_old refl;
     name_pool = retire_names;
     live = retire_live h;
     shows = names_now;

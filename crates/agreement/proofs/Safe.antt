@@ -99,9 +99,9 @@ module _ (program : List ℕ) (start : State) (n : ℕ) (w : World) (f : Fit pro
         as_made call (complete i) made _ u e (on _ (record { setup = t.setup; halt = t.halt })
         (settle_core_keeps program s m f.kept inv i h.at.there h.at.state sized h.calm d))
     turn_alive call made (takes i u h d r e) =
-        let b : Core = learned i m.registerhead (outcome_at m i).result m in
+        let b : Core = learned i m.free_registers.head (outcome_at m i).result m in
         let t = steady_redirected i (outcome_at m i).next b in
-        let t2 = steady_learned i m.registerhead (outcome_at m i).result m in
+        let t2 = steady_learned i m.free_registers.head (outcome_at m i).result m in
         as_made call (complete i) made _ u e (on _ (record { setup = t.setup ∙ t2.setup; halt = t.halt ∙ t2.halt })
         (take_core_keeps program s m f.kept inv i h.at.there h.at.state sized h.calm d r))
     turn_alive call made (steals i v u h d r victim y t z e) =

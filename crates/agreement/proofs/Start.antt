@@ -22,7 +22,9 @@ use Rattle.agreement.specs.Lists.{origin}
 use Rattle.agreement.proofs.View.{View, view_of}
 use Rattle.agreement.proofs.Ghost.{Ghost}
 use Rattle.agreement.proofs.Chains.{RenameChain, last_names, ExecutionChain, last_state}
-use Rattle.agreement.proofs.Contents.{All, GeneralMap}
+use Rattle.std.specs.List.{All}
+use Rattle.std.proofs.lemmas.List.Elements.{All-nil, All-cons}
+use Rattle.agreement.proofs.Contents.{ShownIn, HoldsIn, GeneralMap}
 use Rattle.agreement.proofs.Pools.{RegisterPool, NamePool, Live}
 use Rattle.agreement.proofs.Invariant.{Accounting, Invariant}
 use Rattle.agreement.proofs.Tests.{equal, apart, eq?}
@@ -125,9 +127,9 @@ module _ (s : Setup) (sizes : Sizes s) (fresh : Fresh s) where
       once k a b (no y) = omega (arith, own k, count_none k, rising_past k 0 32 (omega arith), rising_within k 32 window (omega arith) (omega arith))
 
   unused_from : (j n : ℕ) → All (λ k. get_or physical k 0 ≡ 0) (rising (32 + j) n)
-  unfolding All rising
-  unused_from j zero = tt
-  unused_from j (suc n) = (physical_high j, rw (← add-suc 32 j) (unused_from (suc j) n))
+  unfolding rising
+  unused_from j zero = All-nil (λ k. get_or physical k 0 ≡ 0)
+  unused_from j (suc n) = All-cons (λ k. get_or physical k 0 ≡ 0) (32 + j) (rising (suc (32 + j)) n) (physical_high j) (rw (← add-suc 32 j) (unused_from (suc j) n))
 
   live : Live physical own_numbers [] (rising 32 window)
   live =
@@ -151,7 +153,7 @@ module _ (s : Setup) (sizes : Sizes s) (fresh : Fresh s) where
   g = record { value = replicate 96 0; writer = rising 0 96 }
 
   accounting : Accounting g own_numbers c
-  unfolding RenameChain last_names All
+  unfolding RenameChain last_names
   accounting =
       record {
         free_registers = rising 32 (registers - 31);
@@ -159,8 +161,8 @@ module _ (s : Setup) (sizes : Sizes s) (fresh : Fresh s) where
         writers = record { writers = λ r b. ap (λ (x : ℕ). get_or (rising 0 96) x 0) (own_at r b) ∙ rising_at 0 96 r (omega arith) ∙ zero-add r; size = own_length };
         renamed = tt;
         contents = record {
-          shown = tt;
-          holds = tt;
+          shown = All-nil (ShownIn physical);
+          holds = All-nil (HoldsIn physical);
           valued = record { held = λ k h. zeros_at 96 (get_or physical k 0) ∙ sym (zeros_at 96 k); zero_register = physical_low 0 (omega arith); zero_value = zeros_at 96 0 };
         };
         register_pool = register_pool_lem;

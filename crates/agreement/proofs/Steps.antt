@@ -10,11 +10,15 @@ use lib.Dec.{T, eqb}
 use lib.ListN.{length, get_or, replicate}
 use lib.Seq.{get_or-set_same}
 use Rattle.laws.proofs.Table.{at}
-use Rattle.isa.specs.Listing.{Format, R, I, S, B, U, J, Shift, Whole, last, format_of}
+use Rattle.isa.specs.Listing.{last, format_of}
+use Rattle.isa.specs.declared.Format.{Format}
+use Rattle.isa.specs.declared.Format.TheVariants.{R, I, S, B, U, J, Shift, Whole}
 use Rattle.isa.specs.Reads.{choose, none, legal, fields_of, operation_of, read_as, read_of}
 use Rattle.isa.specs.declared.Instruction.{Instruction}
 use Rattle.isa.proofs.ReadLaws.{legal_word, operation_kept}
-use Rattle.execution.specs.Actions.{Action, Computes, LoadsSigned, LoadsUnsigned, Stores, Stops, action_of}
+use Rattle.execution.specs.Actions.{action_of}
+use Rattle.execution.specs.declared.Action.{Action}
+use Rattle.execution.specs.declared.Action.TheVariants.{Computes, LoadsSigned, LoadsUnsigned, Stores, Stops}
 use Rattle.execution.specs.Memory.{accessible, second_by, second_value, stored_by, stored}
 use Rattle.execution.specs.Execute.{stop, executed_by, executed}
 use Rattle.execution.specs.Roles.{loads_by, loads, stores_by, stores, stop_by, stop_at_once}

@@ -10,15 +10,16 @@ use lib.ListN.{get_or, set, take}
 use lib.Seq.{set-get_or}
 use Rattle.isa.specs.Reads.{choose}
 use Rattle.tables.specs.Table.{look_under, look_up, store_under}
-use Rattle.tables.specs.FreeList.{freed_head, freed_link}
+use Rattle.tables.specs.FreeList.{freed_head, freed_link, freed}
 use Rattle.tables.specs.Operand.{wake, sleep, shown_operand}
 use Rattle.tables.specs.Entry.{wake_entry, sleep_entry}
 use Rattle.tables.specs.declared.Operand.{Operand}
 use Rattle.tables.specs.declared.Operand.TheVariants.{Zero, Waiting, Ready}
 use Rattle.tables.specs.declared.Entry.{Entry}
+use Rattle.tables.specs.declared.FreeList.{FreeList}
 use Rattle.tables.proofs.TableLaws.{look_within, store_within, store_zero}
 use Rattle.renaming.specs.Changes.{change_first}
-use Rattle.agreement.proofs.View.{operand_for, name_in, informed, inform_entry, put_head, put_link}
+use Rattle.agreement.proofs.View.{operand_for, name_in, informed, inform_entry, put_head, put_link, put}
 
 -- storing under 0 does nothing; so does writing there what stands there
 pub store_set : {A : Type 0} (t : List A) (n : ℕ) (v d : A) → (n ≡ 0 → get_or t 0 d ≡ v) → store_under t n v ≡ set t n v
@@ -31,15 +32,18 @@ look_get t zero h = sym h
 look_get t (suc n) h = sym (look_within t (suc n) (λ e. omega arith))
 
 -- a number put back
-pub freed_head_lem : (head n : ℕ) → freed_head head n ≡ put_head n head
+freed_head_lem : (head n : ℕ) → freed_head head n ≡ put_head n head
 unfolding put_head
 freed_head_lem head zero = refl
 freed_head_lem head (suc n) = rw (ne_eqb (suc n) 0 (λ e. omega arith))
 
-pub freed_link_lem : (link : List ℕ) (head n : ℕ) → freed_link link head n ≡ put_link n head link
+freed_link_lem : (link : List ℕ) (head n : ℕ) → freed_link link head n ≡ put_link n head link
 unfolding put_link
 freed_link_lem link head zero = sym (store_zero link 0 head refl)
 freed_link_lem link head (suc n) = sym (store_within link (suc n) head (λ e. omega arith))
+
+pub freed_lem : (n : ℕ) (pool : FreeList) → freed n pool ≡ put n pool
+freed_lem n pool = λ i. record { head = freed_head_lem pool.head n i; link = freed_link_lem pool.link pool.head n i }
 
 -- operands on a name
 pub operand_some : (n r : ℕ) → (n ≡ 0 → ⊥) → (r ≡ 0 → ⊥) → operand_for n r ≡ Ready n r

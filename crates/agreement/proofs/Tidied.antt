@@ -14,7 +14,6 @@ use Rattle.agreement.proofs.Ghost.{Ghost}
 use Rattle.agreement.proofs.Chains.{renaming_of, Renamed}
 use Rattle.agreement.proofs.Contents.{holding, without, stopped, early, HoldsIn}
 use Rattle.agreement.proofs.Invariant.{Accounting}
-use Rattle.agreement.proofs.Every.{all_at}
 use Rattle.agreement.proofs.Walks.{names_at, renamed_at, renamed_take, zero_last}
 use Rattle.agreement.proofs.Entering.{zero_named}
 use Rattle.agreement.proofs.Victims.{held_completed}
@@ -40,7 +39,7 @@ module _ (g : Ghost) (m : List ℕ) (c : View) (accounting : Accounting g m c) w
   accounted_renamed i h = renamed_at g m c.entries i h accounting.renamed
 
   pub accounted_holds : (i : ℕ) → i < length c.entries → HoldsIn c.physical (get_or c.entries i empty_entry)
-  accounted_holds i h = all_at (HoldsIn c.physical) c.entries empty_entry i h accounting.contents.holds
+  accounted_holds i h = accounting.contents.holds i empty_entry h
 
   zero_at : (i : ℕ) → get_or (names_at m c.entries i) 0 0 ≡ 0
   zero_at i = zero_last g m (take i c.entries) accounting.name_pool.zero_name (renamed_take g m c.entries i accounting.renamed)
@@ -59,7 +58,7 @@ module _ (g : Ghost) (m : List ℕ) (c : View) (accounting : Accounting g m c) w
         physical = zero_register_lem;
         names = zero_named g m c accounting;
         registers = accounting.general.gives 0 ∙ ap (λ (x : ℕ). get_or c.physical x 0) (zero_named g m c accounting) ∙ zero_register_lem;
-        registerlink = accounting.register_pool.zero_link;
-        namelink = accounting.name_pool.zero_link;
+        register_link = accounting.register_pool.zero_link;
+        name_link = accounting.name_pool.zero_link;
         entries = accounted_plain;
       }

@@ -23,8 +23,8 @@ pub record Tidy (c : View) : Type 0 where
   pub physical : get_or c.physical 0 0 ≡ 0
   pub names : get_or c.names 0 0 ≡ 0
   pub registers : get_or c.registers 0 0 ≡ 0
-  pub registerlink : get_or c.registerlink 0 0 ≡ 0
-  pub namelink : get_or c.namelink 0 0 ≡ 0
+  pub register_link : get_or c.free_registers.link 0 0 ≡ 0
+  pub name_link : get_or c.free_names.link 0 0 ≡ 0
   pub entries : (i : ℕ) → i < length c.entries → Plain c.physical (get_or c.entries i empty_entry)
 
 -- index 0 after a write
@@ -68,8 +68,8 @@ tidy_drop k c t h =
       names = zero_kept c.names e.destination e.previous t.names p.baseless;
       registers = zero_kept c.registers e.destination (get_or (set c.physical e.name 0) e.previous 0) t.registers
           (λ d. ap (λ (n : ℕ). get_or (set c.physical e.name 0) n 0) (p.baseless d) ∙ z);
-      registerlink = put_zero (get_or c.physical e.name 0) c.registerhead c.registerlink t.registerlink;
-      namelink = put_zero e.name c.namehead c.namelink t.namelink;
+      register_link = put_zero (get_or c.physical e.name 0) c.free_registers.head c.free_registers.link t.register_link;
+      name_link = put_zero e.name c.free_names.head c.free_names.link t.name_link;
       entries = λ i g. subst (Plain (set c.physical e.name 0)) (sym (get_or-take k c.entries i empty_entry (omega arith)))
           (plain_cleared c.physical e.name (get_or c.entries i empty_entry) t.physical (t.entries i (omega arith)));
     }

@@ -26,7 +26,7 @@ use Rattle.completing.specs.Complete.{outcome_at, needs_register, none_free, com
 use Rattle.stealing.specs.Steal.{victim_of, no_victim, robbed}
 use Rattle.committing.specs.Commit.{commit_refusal, halted_by, retired, committed, written_by, Commit, commit_by, commit_of}
 use Rattle.renaming.specs.declared.Core.{Core}
-use Rattle.renaming.specs.declared.Answer.{Answer}
+use Rattle.renaming.specs.Answer.{Answer}
 use Rattle.window.specs.Calls.{World, Made, made_by, call_of, make}
 use Rattle.window.specs.declared.Call.{Call}
 use Rattle.window.specs.declared.Call.TheVariants.{Decode as decode, Issue as issue, Complete as complete, Commit as commit}
@@ -56,9 +56,9 @@ pub data Turn (program : List ℕ) (w : World) (call : Call) (made : Made) : Typ
       → made ≡ made_by (place i (stopped_entry (outcome_at w.core i).stop (entry_at w.core i)) w.core) w.memory 0 → Turn program w call made
   settles : (i : ℕ) → call ≡ complete i → Goes w.core i → (entry_at w.core i).destination ≡ 0
       → made ≡ made_by (redirected i (outcome_at w.core i).next (place i (completed_entry 0 (entry_at w.core i)) w.core)) w.memory 0 → Turn program w call made
-  takes : (i : ℕ) → call ≡ complete i → Goes w.core i → ((entry_at w.core i).destination ≡ 0 → ⊥) → (w.core.registerhead ≡ 0 → ⊥)
-      → made ≡ made_by (redirected i (outcome_at w.core i).next (learned i w.core.registerhead (outcome_at w.core i).result w.core)) w.memory 0 → Turn program w call made
-  steals : (i v : ℕ) → call ≡ complete i → Goes w.core i → ((entry_at w.core i).destination ≡ 0 → ⊥) → w.core.registerhead ≡ 0
+  takes : (i : ℕ) → call ≡ complete i → Goes w.core i → ((entry_at w.core i).destination ≡ 0 → ⊥) → (w.core.free_registers.head ≡ 0 → ⊥)
+      → made ≡ made_by (redirected i (outcome_at w.core i).next (learned i w.core.free_registers.head (outcome_at w.core i).result w.core)) w.memory 0 → Turn program w call made
+  steals : (i v : ℕ) → call ≡ complete i → Goes w.core i → ((entry_at w.core i).destination ≡ 0 → ⊥) → w.core.free_registers.head ≡ 0
       → v ≡ victim_of w.core i → i < v → v < w.core.count → (held w.core.physical (entry_at w.core v) ≡ 0 → ⊥)
       → made ≡ made_by (redirected i (outcome_at w.core i).next (learned i (held w.core.physical (entry_at w.core v)) (outcome_at w.core i).result (robbed v w.core))) w.memory 0
       → Turn program w call made
@@ -130,18 +130,18 @@ module _ (program : List ℕ) (w : World) where
       (choose a
       (redirected i (outcome_at m i).next
       (choose b (place i (completed_entry 0 (entry_at m i)) m)
-      (learned i (choose c (held m.physical (entry_at m (victim_of m i))) m.registerhead) (outcome_at m i).result (choose c (robbed (victim_of m i) m) m))))
+      (learned i (choose c (held m.physical (entry_at m (victim_of m i))) m.free_registers.head) (outcome_at m i).result (choose c (robbed (victim_of m i) m) m))))
       (place i (stopped_entry (outcome_at m i).stop (entry_at m i)) m)) w.memory 0)
   complete_at i h free false b c ea eb ec = ends i refl h (eqb-false (outcome_at m i).stop.cause 0 ea) refl
   complete_at i h free true true c ea eb ec =
       settles i refl (record { at = h; calm = eqb-true (outcome_at m i).stop.cause 0 ea }) (eqb-true (entry_at m i).destination 0 eb) refl
   complete_at i h free true false false ea eb ec =
-      takes i refl (record { at = h; calm = eqb-true (outcome_at m i).stop.cause 0 ea }) (eqb-false (entry_at m i).destination 0 eb) (eqb-false m.registerhead 0 ec) refl
+      takes i refl (record { at = h; calm = eqb-true (outcome_at m i).stop.cause 0 ea }) (eqb-false (entry_at m i).destination 0 eb) (eqb-false m.free_registers.head 0 ec) refl
   complete_at i h free true false true ea eb ec =
       let needs : needs_register m i && none_free m ≡ true = rw (ea, eb, ec) in
       let v : ℕ = victim_of m i in
       let y = victim_is (m.count - suc i) m.physical m.entries i (eqb-false v i (and_false (needs_register m i && none_free m) (no_victim m i) free needs)) in
-      steals i v refl (record { at = h; calm = eqb-true (outcome_at m i).stop.cause 0 ea }) (eqb-false (entry_at m i).destination 0 eb) (eqb-true m.registerhead 0 ec)
+      steals i v refl (record { at = h; calm = eqb-true (outcome_at m i).stop.cause 0 ea }) (eqb-false (entry_at m i).destination 0 eb) (eqb-true m.free_registers.head 0 ec)
       refl y.0 (omega (arith, y.1, h.there)) y.2 refl
 
   complete_turn : (i : ℕ) → Turn program w (complete i) (call_of program w.memory (complete i) m)

@@ -9,6 +9,7 @@ use Rattle.tables.specs.Entry.{empty_entry, with_operands, waiting_entry, comple
 use Rattle.tables.specs.declared.Operand.{Operand}
 use Rattle.tables.specs.declared.Operand.TheVariants.{Zero, Waiting, Ready}
 use Rattle.tables.specs.declared.Entry.{Entry}
+use Rattle.tables.specs.declared.FreeList.{FreeList}
 use Rattle.ranges.specs.declared.Setup.{Setup}
 use Rattle.renaming.specs.declared.Core.{Core}
 
@@ -20,10 +21,8 @@ pub record View : Type 0 where
   pub registers : List ℕ
   pub physical : List ℕ
   pub values : List ℕ
-  pub registerhead : ℕ
-  pub registerlink : List ℕ
-  pub namehead : ℕ
-  pub namelink : List ℕ
+  pub free_registers : FreeList
+  pub free_names : FreeList
   pub fetch : ℕ
   pub next : ℕ
   pub halt : Stop
@@ -33,14 +32,12 @@ view_of m =
     record {
       setup = m.setup;
       entries = take m.count m.entries;
-      names = m.mapname;
-      registers = m.mapregister;
+      names = m.map.names;
+      registers = m.map.registers;
       physical = m.physical;
       values = m.values;
-      registerhead = m.registerhead;
-      registerlink = m.registerlink;
-      namehead = m.namehead;
-      namelink = m.namelink;
+      free_registers = m.free_registers;
+      free_names = m.free_names;
       fetch = m.fetch;
       next = m.next;
       halt = m.halt;
@@ -73,6 +70,10 @@ unfoldable pub put_link : ℕ → ℕ → List ℕ → List ℕ
 put_link zero head link = link
 put_link (suc n) head link = set link (suc n) head
 
+-- the pool after one number was put back
+abbrev pub put : ℕ → FreeList → FreeList
+put n pool = record { head = put_head n pool.head; link = put_link n pool.head pool.link }
+
 -- the general map's registers, where a name that it still shows gets or loses its register
 unfoldable pub reshown : List ℕ → List ℕ → ℕ → ℕ → ℕ → List ℕ
 reshown names registers d n register = choose (eqb (get_or names d 0) n) (set registers d register) registers
@@ -81,22 +82,14 @@ reshown names registers d n register = choose (eqb (get_or names d 0) n) (set re
 unfoldable pub drop_at : ℕ → View → View
 drop_at k c =
     let e : Entry = get_or c.entries k empty_entry in
-    let register : ℕ = get_or c.physical e.name 0 in
     let physical : List ℕ = set c.physical e.name 0 in
-    record {
-      setup = c.setup;
+    record c {
       entries = take k c.entries;
       names = set c.names e.destination e.previous;
       registers = set c.registers e.destination (get_or physical e.previous 0);
       physical = physical;
-      values = c.values;
-      registerhead = put_head register c.registerhead;
-      registerlink = put_link register c.registerhead c.registerlink;
-      namehead = put_head e.name c.namehead;
-      namelink = put_link e.name c.namehead c.namelink;
-      fetch = c.fetch;
-      next = c.next;
-      halt = c.halt;
+      free_registers = put (get_or c.physical e.name 0) c.free_registers;
+      free_names = put e.name c.free_names;
     }
 
 -- n entries are dropped, the youngest first, until k are left
@@ -106,139 +99,59 @@ drops_to k (suc n) c = drops_to k n (drop_at (k + n) c)
 
 -- an entry changes, and no table does
 abbrev pub placed : ℕ → Entry → View → View
-placed i e c =
-    record {
-      setup = c.setup;
-      entries = set c.entries i e;
-      names = c.names;
-      registers = c.registers;
-      physical = c.physical;
-      values = c.values;
-      registerhead = c.registerhead;
-      registerlink = c.registerlink;
-      namehead = c.namehead;
-      namelink = c.namelink;
-      fetch = c.fetch;
-      next = c.next;
-      halt = c.halt;
-    }
+placed i e c = record c { entries = set c.entries i e }
 
 -- the entry at j waits again, and its register is free
 unfoldable pub release : ℕ → View → View
 release j c =
     let e : Entry = get_or c.entries j empty_entry in
-    let register : ℕ = get_or c.physical e.name 0 in
-    record {
-      setup = c.setup;
+    record c {
       entries = map (inform_entry e.name 0) (set c.entries j (waiting_entry e));
-      names = c.names;
       registers = reshown c.names c.registers e.destination e.name 0;
       physical = set c.physical e.name 0;
-      values = c.values;
-      registerhead = put_head register c.registerhead;
-      registerlink = put_link register c.registerhead c.registerlink;
-      namehead = c.namehead;
-      namelink = c.namelink;
-      fetch = c.fetch;
-      next = c.next;
-      halt = c.halt;
+      free_registers = put (get_or c.physical e.name 0) c.free_registers;
     }
 
 -- the entry at i is completed with the head of the pool, which gets the result
 unfoldable pub learn : ℕ → ℕ → View → View
 learn i result c =
     let e : Entry = get_or c.entries i empty_entry in
-    let register : ℕ = c.registerhead in
-    record {
-      setup = c.setup;
+    let register : ℕ = c.free_registers.head in
+    record c {
       entries = map (inform_entry e.name register) (set c.entries i (completed_entry result e));
-      names = c.names;
       registers = reshown c.names c.registers e.destination e.name register;
       physical = set c.physical e.name register;
       values = set c.values register result;
-      registerhead = get_or c.registerlink register 0;
-      registerlink = set c.registerlink register 0;
-      namehead = c.namehead;
-      namelink = c.namelink;
-      fetch = c.fetch;
-      next = c.next;
-      halt = c.halt;
+      free_registers = record { head = get_or c.free_registers.link register 0; link = set c.free_registers.link register 0 };
     }
 
 -- the oldest entry leaves
 unfoldable pub retire : View → View
 retire c =
     let e : Entry = get_or c.entries 0 empty_entry in
-    let register : ℕ = get_or c.physical e.previous 0 in
-    record {
-      setup = c.setup;
+    record c {
       entries = drop 1 c.entries;
-      names = c.names;
-      registers = c.registers;
       physical = set c.physical e.previous 0;
-      values = c.values;
-      registerhead = put_head register c.registerhead;
-      registerlink = put_link register c.registerhead c.registerlink;
-      namehead = put_head e.previous c.namehead;
-      namelink = put_link e.previous c.namehead c.namelink;
-      fetch = c.fetch;
+      free_registers = put (get_or c.physical e.previous 0) c.free_registers;
+      free_names = put e.previous c.free_names;
       next = e.predicted;
-      halt = c.halt;
     }
 
 -- an entry enters; with a destination it has the head of the pool of names
 unfoldable pub append : ℕ → Entry → View → View
-append zero e c =
-    record {
-      setup = c.setup;
-      entries = c.entries ++ e ∷ [];
-      names = c.names;
-      registers = c.registers;
-      physical = c.physical;
-      values = c.values;
-      registerhead = c.registerhead;
-      registerlink = c.registerlink;
-      namehead = c.namehead;
-      namelink = c.namelink;
-      fetch = e.predicted;
-      next = c.next;
-      halt = c.halt;
-    }
+append zero e c = record c { entries = c.entries ++ e ∷ []; fetch = e.predicted }
 append (suc d) e c =
-    record {
-      setup = c.setup;
+    record c {
       entries = c.entries ++ e ∷ [];
-      names = set c.names (suc d) c.namehead;
+      names = set c.names (suc d) c.free_names.head;
       registers = set c.registers (suc d) 0;
-      physical = c.physical;
-      values = c.values;
-      registerhead = c.registerhead;
-      registerlink = c.registerlink;
-      namehead = get_or c.namelink c.namehead 0;
-      namelink = set c.namelink c.namehead 0;
+      free_names = record { head = get_or c.free_names.link c.free_names.head 0; link = set c.free_names.link c.free_names.head 0 };
       fetch = e.predicted;
-      next = c.next;
-      halt = c.halt;
     }
 
 -- fetch, next address and halt change
 abbrev pub steer : ℕ → ℕ → Stop → View → View
-steer fetch next halt c =
-    record {
-      setup = c.setup;
-      entries = c.entries;
-      names = c.names;
-      registers = c.registers;
-      physical = c.physical;
-      values = c.values;
-      registerhead = c.registerhead;
-      registerlink = c.registerlink;
-      namehead = c.namehead;
-      namelink = c.namelink;
-      fetch = fetch;
-      next = next;
-      halt = halt;
-    }
+steer fetch next halt c = record c { fetch = fetch; next = next; halt = halt }
 
 -- where the actual next address is not the predicted one, all younger entries are dropped and fetch goes there
 unfoldable pub redirect : ℕ → ℕ → View → View

@@ -11,7 +11,7 @@ use lib.Seq.{get_or-take, take-take, take-set-le, take-set-lt, take-suc-set, tak
 use Rattle.isa.specs.Reads.{choose}
 use Rattle.execution.specs.declared.Stop.{Stop}
 use Rattle.tables.specs.Table.{look_up, store_under}
-use Rattle.tables.specs.FreeList.{freed_head, freed_link, taken_head}
+use Rattle.tables.specs.FreeList.{freed, taken_head}
 use Rattle.tables.specs.Entry.{empty_entry, predicted_entry}
 use Rattle.tables.specs.declared.Entry.{Entry}
 use Rattle.tables.proofs.TableLaws.{store_within, store_zero}
@@ -23,7 +23,7 @@ use Rattle.committing.specs.Commit.{halted_by, move_down, retired}
 use Rattle.renaming.specs.declared.Core.{Core}
 use Rattle.renaming.proofs.DropLaws.{drop_count}
 use Rattle.agreement.proofs.View.{View, view_of, drop_at, drops_to, placed, retire, append, steer, redirect}
-use Rattle.agreement.proofs.Stores.{store_set, look_get, freed_head_lem, freed_link_lem}
+use Rattle.agreement.proofs.Stores.{store_set, look_get, freed_lem}
 use Rattle.agreement.proofs.Kept.{Kept, kept_drop}
 use Rattle.agreement.proofs.Tidy.{Plain, Tidy, cleared_kept, tidy_drop}
 
@@ -42,47 +42,37 @@ unfolding halted_by
 view_halted why m = refl
 
 -- decode: the name of an entry with a destination is the head of the pool
-module _ (e : Entry) (m : Core) (k : Kept m) (h : m.count < m.setup.window) (z : get_or m.namelink 0 0 ≡ 0) where
+module _ (e : Entry) (m : Core) (k : Kept m) (h : m.count < m.setup.window) (z : get_or m.free_names.link 0 0 ≡ 0) where
   entered : take (suc m.count) (set m.entries m.count e) ≡ take m.count m.entries ++ e ∷ []
   entered = let w = k.window in let l = k.entries in take-suc-set m.entries m.count e (omega arith)
 
-  enter_at : (d : ℕ) → e.destination ≡ d → (d ≡ 0 → e.name ≡ 0) → ((d ≡ 0 → ⊥) → e.name ≡ m.namehead) → view_of (enter e m) ≡ append d e (view_of m)
+  enter_at : (d : ℕ) → e.destination ≡ d → (d ≡ 0 → e.name ≡ 0) → ((d ≡ 0 → ⊥) → e.name ≡ m.free_names.head) → view_of (enter e m) ≡ append d e (view_of m)
   unfolding enter append
-  enter_at zero q none some = λ i. record {
-    setup = m.setup;
+  enter_at zero q none some = λ i. record (view_of m) {
     entries = entered i;
-    names = sym (store_zero m.mapname e.destination e.name q) i;
-    registers = sym (store_zero m.mapregister e.destination 0 q) i;
-    physical = m.physical;
-    values = m.values;
-    registerhead = m.registerhead;
-    registerlink = m.registerlink;
-    namehead = ap (λ (b : Bool). choose b m.namehead (taken_head m.namelink m.namehead)) (eq-eqb e.destination 0 q) i;
-    namelink = sym (store_zero m.namelink e.name 0 (none refl)) i;
+    names = sym (store_zero m.map.names e.destination e.name q) i;
+    registers = sym (store_zero m.map.registers e.destination 0 q) i;
+    free_names = record {
+      head = ap (λ (b : Bool). choose b m.free_names.head (taken_head m.free_names.link m.free_names.head)) (eq-eqb e.destination 0 q) i;
+      link = sym (store_zero m.free_names.link e.name 0 (none refl)) i;
+    };
     fetch = e.predicted;
-    next = m.next;
-    halt = m.halt;
   }
   enter_at (suc d) q none some =
       let nz : e.destination ≡ 0 → ⊥ = λ x. omega arith in
-      let is : e.name ≡ m.namehead = some (λ x. omega arith) in
-      λ i. record {
-        setup = m.setup;
+      let is : e.name ≡ m.free_names.head = some (λ x. omega arith) in
+      λ i. record (view_of m) {
         entries = entered i;
-        names = (sym (store_within m.mapname e.destination e.name nz) ∙ ap (λ (x : ℕ). set m.mapname x e.name) q ∙ ap (set m.mapname (suc d)) is) i;
-        registers = (sym (store_within m.mapregister e.destination 0 nz) ∙ ap (λ (x : ℕ). set m.mapregister x 0) q) i;
-        physical = m.physical;
-        values = m.values;
-        registerhead = m.registerhead;
-        registerlink = m.registerlink;
-        namehead = (ap (λ (b : Bool). choose b m.namehead (taken_head m.namelink m.namehead)) (ne_eqb e.destination 0 nz) ∙ look_get m.namelink m.namehead z) i;
-        namelink = (ap (λ (x : ℕ). store_under m.namelink x 0) is ∙ store_set m.namelink m.namehead 0 0 (λ x. z)) i;
+        names = (sym (store_within m.map.names e.destination e.name nz) ∙ ap (λ (x : ℕ). set m.map.names x e.name) q ∙ ap (set m.map.names (suc d)) is) i;
+        registers = (sym (store_within m.map.registers e.destination 0 nz) ∙ ap (λ (x : ℕ). set m.map.registers x 0) q) i;
+        free_names = record {
+          head = (ap (λ (b : Bool). choose b m.free_names.head (taken_head m.free_names.link m.free_names.head)) (ne_eqb e.destination 0 nz) ∙ look_get m.free_names.link m.free_names.head z) i;
+          link = (ap (λ (x : ℕ). store_under m.free_names.link x 0) is ∙ store_set m.free_names.link m.free_names.head 0 0 (λ x. z)) i;
+        };
         fetch = e.predicted;
-        next = m.next;
-        halt = m.halt;
       }
 
-  pub view_enter : (e.destination ≡ 0 → e.name ≡ 0) → ((e.destination ≡ 0 → ⊥) → e.name ≡ m.namehead) → view_of (enter e m) ≡ append e.destination e (view_of m)
+  pub view_enter : (e.destination ≡ 0 → e.name ≡ 0) → ((e.destination ≡ 0 → ⊥) → e.name ≡ m.free_names.head) → view_of (enter e m) ≡ append e.destination e (view_of m)
   view_enter none some = enter_at e.destination refl none some
 
 -- drop: the youngest entry's register is the one under its name
@@ -95,25 +85,18 @@ module _ (m : Core) (k : Kept m) (some : 0 < m.count) (t : Tidy (view_of m)) whe
       let q : get_or (take m.count m.entries) n empty_entry ≡ e = get_or-take m.count m.entries n empty_entry (omega arith) in
       let long = seen_length m k in
       let p : Plain m.physical e = subst (Plain m.physical) q (t.entries n (omega arith)) in
-      let freed : store_under m.physical e.name 0 ≡ set m.physical e.name 0 = store_set m.physical e.name 0 0 (λ x. t.physical) in
+      let cleared : store_under m.physical e.name 0 ≡ set m.physical e.name 0 = store_set m.physical e.name 0 0 (λ x. t.physical) in
       let back : look_up (store_under m.physical e.name 0) e.previous ≡ get_or (set m.physical e.name 0) e.previous 0 =
-      ap (λ (l : List ℕ). look_up l e.previous) freed ∙ look_get (set m.physical e.name 0) e.previous (cleared_kept m.physical e.name 0 t.physical) in
-      let backless : e.destination ≡ 0 → get_or m.mapregister 0 0 ≡ get_or (set m.physical e.name 0) e.previous 0 =
+      ap (λ (l : List ℕ). look_up l e.previous) cleared ∙ look_get (set m.physical e.name 0) e.previous (cleared_kept m.physical e.name 0 t.physical) in
+      let backless : e.destination ≡ 0 → get_or m.map.registers 0 0 ≡ get_or (set m.physical e.name 0) e.previous 0 =
       λ d. t.registers ∙ sym (ap (λ (x : ℕ). get_or (set m.physical e.name 0) x 0) (p.baseless d) ∙ cleared_kept m.physical e.name 0 t.physical) in
-      rw q (λ i. record {
-        setup = m.setup;
+      rw q (λ i. record (view_of m) {
         entries = (take-set-le n m.entries n empty_entry (omega arith) ∙ sym (take-take n m.count m.entries (omega arith))) i;
-        names = store_set m.mapname e.destination e.previous 0 (λ d. t.names ∙ sym (p.baseless d)) i;
-        registers = (ap (store_under m.mapregister e.destination) back ∙ store_set m.mapregister e.destination (get_or (set m.physical e.name 0) e.previous 0) 0 backless) i;
-        physical = freed i;
-        values = m.values;
-        registerhead = (ap (freed_head m.registerhead) p.holds ∙ freed_head_lem m.registerhead (get_or m.physical e.name 0)) i;
-        registerlink = (ap (freed_link m.registerlink m.registerhead) p.holds ∙ freed_link_lem m.registerlink m.registerhead (get_or m.physical e.name 0)) i;
-        namehead = freed_head_lem m.namehead e.name i;
-        namelink = freed_link_lem m.namelink m.namehead e.name i;
-        fetch = m.fetch;
-        next = m.next;
-        halt = m.halt;
+        names = store_set m.map.names e.destination e.previous 0 (λ d. t.names ∙ sym (p.baseless d)) i;
+        registers = (ap (store_under m.map.registers e.destination) back ∙ store_set m.map.registers e.destination (get_or (set m.physical e.name 0) e.previous 0) 0 backless) i;
+        physical = cleared i;
+        free_registers = (ap (λ (n : ℕ). freed n m.free_registers) p.holds ∙ freed_lem (get_or m.physical e.name 0) m.free_registers) i;
+        free_names = freed_lem e.name m.free_names i;
       })
 
 pub drops_count : (n : ℕ) (m : Core) → (drop_many n m).count ≡ m.count - n
@@ -144,21 +127,10 @@ view_drop_to kept m k t h = view_drops (m.count - kept) kept m k t (omega arith)
 pub view_refetched : (i next : ℕ) (m : Core) → i < m.count
     → view_of (refetched i next m) ≡ steer next m.next m.halt (placed i (predicted_entry next (get_or (view_of m).entries i empty_entry)) (view_of m))
 unfolding refetched
-view_refetched i next m h = λ j. record {
-  setup = m.setup;
+view_refetched i next m h = λ j. record (view_of m) {
   entries = (take-set-lt m.count m.entries i (predicted_entry next (entry_at m i)) h
       ∙ ap (λ (e : Entry). set (take m.count m.entries) i (predicted_entry next e)) (sym (seen_entry m i h))) j;
-  names = m.mapname;
-  registers = m.mapregister;
-  physical = m.physical;
-  values = m.values;
-  registerhead = m.registerhead;
-  registerlink = m.registerlink;
-  namehead = m.namehead;
-  namelink = m.namelink;
   fetch = next;
-  next = m.next;
-  halt = m.halt;
 }
 
 module _ (i next : ℕ) (m : Core) (k : Kept m) (t : Tidy (view_of m)) (h : i < m.count) where
@@ -192,20 +164,12 @@ view_retired m k some z =
     let register : look_up m.physical e.previous ≡ get_or m.physical e.previous 0 = look_get m.physical e.previous z in
     let l = seen_length m k in
     let d = length-drop 1 (take m.count m.entries) in
-    rw q (λ i. record {
-      setup = m.setup;
+    rw q (λ i. record (view_of m) {
       entries = moved l d i;
-      names = m.mapname;
-      registers = m.mapregister;
       physical = store_set m.physical e.previous 0 0 (λ x. z) i;
-      values = m.values;
-      registerhead = (ap (freed_head m.registerhead) register ∙ freed_head_lem m.registerhead (get_or m.physical e.previous 0)) i;
-      registerlink = (ap (freed_link m.registerlink m.registerhead) register ∙ freed_link_lem m.registerlink m.registerhead (get_or m.physical e.previous 0)) i;
-      namehead = freed_head_lem m.namehead e.previous i;
-      namelink = freed_link_lem m.namelink m.namehead e.previous i;
-      fetch = m.fetch;
+      free_registers = (ap (λ (n : ℕ). freed n m.free_registers) register ∙ freed_lem (get_or m.physical e.previous 0) m.free_registers) i;
+      free_names = freed_lem e.previous m.free_names i;
       next = e.predicted;
-      halt = m.halt;
     })
   where
     moved : length (take m.count m.entries) ≡ m.count → length (drop 1 (take m.count m.entries)) ≡ length (take m.count m.entries) - 1

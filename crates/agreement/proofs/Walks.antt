@@ -15,7 +15,8 @@ use Rattle.tables.specs.declared.Entry.{Entry}
 use Rattle.agreement.proofs.View.{name_in}
 use Rattle.agreement.proofs.Ghost.{Ghost, Writers, Agree}
 use Rattle.agreement.proofs.Chains.{renaming_of, Renamed, RenameChain, last_names, execution_of, Executes, followed, ExecutionChain, last_state}
-use Rattle.agreement.proofs.Contents.{All}
+use Rattle.std.specs.List.{All}
+use Rattle.std.proofs.lemmas.List.Elements.{All-nil, All-cons, All-tail}
 use Rattle.agreement.proofs.Tests.{equal, apart, eq?}
 use Rattle.agreement.proofs.Steps.{step_other, step_size, step_length, step_unstored}
 use Rattle.agreement.proofs.LiveLaws.{set_zero}
@@ -141,10 +142,10 @@ last_length p s (e ∷ es) = last_length p (followed p s e.predicted) es ∙ ste
 
 pub last_unstored : (p : List ℕ) (g : Ghost) (s : State) (es : List Entry) → ExecutionChain p g s (map execution_of es) → All (λ e. stores e.instruction ≡ false) es
     → (last_state p s (map execution_of es)).memory ≡ s.memory
-unfolding last_state ExecutionChain All
+unfolding last_state ExecutionChain
 last_unstored p g s [] r a = refl
 last_unstored p g s (e ∷ es) r a =
-    last_unstored p g (followed p s e.predicted) es r.1 a.1 ∙ step_unstored p s (ap stores (sym r.0.instruction) ∙ a.0)
+    last_unstored p g (followed p s e.predicted) es r.1 (All-tail (λ x. stores x.instruction ≡ false) e es a) ∙ step_unstored p s (ap stores (sym r.0.instruction) ∙ a 0 e (omega arith))
 
 -- a name that neither the first names nor an entry has is nowhere an operand, nor in the last names
 pub record Lacks (n : ℕ) (e : Entry) : Type 0 where
@@ -162,17 +163,16 @@ lacks_set m d k n h f r q = elim (eq? r d) [
     inside (no l) e = f r (cc (set_out m d k (omega arith)))
 
 pub lacks_last : (n : ℕ) (m : List ℕ) (es : List Entry) → ((r : ℕ) → get_or m r 0 ≢ n) → All (λ e. e.name ≢ n) es → (r : ℕ) → get_or (last_names m (map renaming_of es)) r 0 ≢ n
-unfolding last_names All
+unfolding last_names
 lacks_last n m [] f q = f
-lacks_last n m (e ∷ es) f q = lacks_last n (set m e.destination e.name) es (lacks_set m e.destination e.name n q.0 f) q.1
+lacks_last n m (e ∷ es) f q = lacks_last n (set m e.destination e.name) es (lacks_set m e.destination e.name n (q 0 e (omega arith)) f) (All-tail (λ x. x.name ≢ n) e es q)
 
 pub lacks_all : (g : Ghost) (n : ℕ) (m : List ℕ) (es : List Entry) → ((r : ℕ) → get_or m r 0 ≢ n) → All (λ e. e.name ≢ n) es → RenameChain g m (map renaming_of es) → All (Lacks n) es
-unfolding RenameChain All
-lacks_all g n m [] f q l = tt
-lacks_all g n m (e ∷ es) f q l = (
-  record { left = λ z. f (first_source e.instruction) (sym l.0.left ∙ z); right = λ z. f (second_source e.instruction) (sym l.0.right ∙ z) },
-  lacks_all g n (set m e.destination e.name) es (lacks_set m e.destination e.name n q.0 f) q.1 l.1,
-)
+unfolding RenameChain
+lacks_all g n m [] f q l = All-nil (Lacks n)
+lacks_all g n m (e ∷ es) f q l = All-cons (Lacks n) e es
+    (record { left = λ z. f (first_source e.instruction) (sym l.0.left ∙ z); right = λ z. f (second_source e.instruction) (sym l.0.right ∙ z) })
+    (lacks_all g n (set m e.destination e.name) es (lacks_set m e.destination e.name n (q 0 e (omega arith)) f) (All-tail (λ x. x.name ≢ n) e es q) l.1)
 
 -- the name of register 0 stays zero
 zero_next : (g : Ghost) (m : List ℕ) (e : Entry) → get_or m 0 0 ≡ 0 → Renamed g m (renaming_of e) → get_or (set m e.destination e.name) 0 0 ≡ 0

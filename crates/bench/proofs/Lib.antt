@@ -1,5 +1,5 @@
 -- Laws of replay.
 pub mod RefusalLaws
-pub mod WordLaws
 pub mod FigureLaws
 pub mod Laws
+pub mod RefusedLaws

@@ -1,7 +1,7 @@
 -- Replay's refusals in turn.
 use Prim.Native.Nat.{ℕ, ◌≤◌}
-use mathlib.Core.Path.{◌≡◌, refl}
-use mathlib.Core.Logic.{◌≢◌}
+use Rattle.std.proofs.Common.{Result, Ok, Err}
+use mathlib.Core.Path.{◌≡◌, refl, sym, ap, ◌∙◌}
 use mathlib.Core.Bool.{Bool, true, false, not}
 use mathlib.Core.List.{List, [], ◌∷◌}
 use borrow.Author.Tests.{eqb-true, eq-eqb, ne_eqb, not-false}
@@ -9,13 +9,21 @@ use lib.Dec.{eqb}
 use lib.ListN.{length}
 use Rattle.isa.specs.Reads.{choose}
 use Rattle.reference.specs.Step.{when, first, length_refusal}
-use Rattle.ranges.specs.Sizes.{set_up_refusal}
-use Rattle.formats.specs.Schedule.{record_length, schedule_fits, malformed, head_refusal}
+use Rattle.refusals.specs.Numbers.{number, number_of}
+use Rattle.refusals.specs.declared.Refusal.{Refusal}
+use Rattle.refusals.proofs.Laws.{number_some}
+use Rattle.ranges.specs.Sizes.{setup_of, set_up_refusal}
+use Rattle.ranges.specs.declared.Setup.{Setup}
+use Rattle.renaming.specs.Core.{zero_machine}
+use Rattle.renaming.specs.SetUp.{fresh_machine, set_up_answer, set_up_of}
+use Rattle.renaming.specs.Answer.{Answer}
+use Rattle.renaming.specs.declared.Core.{Core}
+use Rattle.formats.specs.Schedule.{record_length, schedule_fits, malformed, head_refusal, window_in, registers_in}
 use Rattle.formats.specs.Chain.{schedule_refusal}
 use Rattle.formats.proofs.HeadLaws.{at_least}
 use Rattle.renaming.proofs.RefusalLaws.{passed, both_none}
 use Rattle.formats.specs.Result.{result_length}
-use Rattle.events.specs.Play.{setup_in}
+use Rattle.events.specs.Play.{setup_in, Ready}
 use Rattle.bench.specs.Replay.{replay_refusal}
 
 pub head_fits : (schedule : List ℕ) → head_refusal schedule ≡ 0 → schedule_fits (length schedule) ≡ true
@@ -29,52 +37,82 @@ alone : (n : ℕ) (b : Bool) → eqb n 0 ≡ b → n ≡ choose b 0 n
 alone n true z = eqb-true n 0 z
 alone n false z = refl
 
+-- a set-up's number, and its machine
+module _ (s : Setup) where
+  answer_number : (set_up_of s).number ≡ set_up_refusal s
+  unfolding set_up_of
+  answer_number = at (eqb (set_up_refusal s) 0) refl
+    where
+      at : (b : Bool) → eqb (set_up_refusal s) 0 ≡ b → (choose {A = Answer} b (record { core = fresh_machine s; number = 0 }) (record { core = zero_machine; number = set_up_refusal s })).number ≡ set_up_refusal s
+      at true z = sym (eqb-true (set_up_refusal s) 0 z)
+      at false z = refl
+
+  set_number : (r : Result Core Refusal) → set_up_answer r ≡ set_up_of s → number_of r ≡ set_up_refusal s
+  set_number (Ok core) e = ap (λ (a : Answer). a.number) e ∙ answer_number
+  set_number (Err refusal) e = ap (λ (a : Answer). a.number) e ∙ answer_number
+
+  set_core : (core : Core) → set_up_answer (Ok core) ≡ set_up_of s → core ≡ fresh_machine s
+  unfolding set_up_of
+  set_core core e = ap (λ (a : Answer). a.core) e ∙ rw (eq-eqb (set_up_refusal s) 0 (sym (set_number (Ok core) e)))
+
+-- neither the lengths, nor the result's, nor record 0 are refused, and record 0 gives W and N
+module _ (program memory schedule : List ℕ) (size window registers : ℕ)
+    (lengths : 0 ≡ length_refusal program memory) (right : size ≡ result_length) (head : 0 ≡ head_refusal schedule)
+    (w : window ≡ window_in schedule) (n : registers ≡ registers_in schedule) where
+  abbrev set : Setup
+  set = setup_of window registers (length program) (length memory)
+
+  same : set ≡ setup_in program memory schedule
+  same = rw (w, n)
+
+  pub set_stop : (refusal : Refusal) → set_up_answer (Err refusal) ≡ set_up_of set → number refusal ≡ replay_refusal program memory schedule size
+  unfolding replay_refusal first
+  set_stop refusal e =
+      let is : set_up_refusal (setup_in program memory schedule) ≡ number refusal = sym (set_number set (Err refusal) e ∙ ap set_up_refusal same) in
+      rw (← lengths, eq-eqb size result_length right, ← head, is, ne_eqb (number refusal) 0 (number_some refusal))
+
+  accepted : (core : Core) → set_up_answer (Ok core) ≡ set_up_of set → set_up_refusal (setup_in program memory schedule) ≡ 0
+  accepted core e = sym (set_number set (Ok core) e ∙ ap set_up_refusal same)
+
+  pub chain_last : (core : Core) → set_up_answer (Ok core) ≡ set_up_of set → (k : ℕ) → k ≡ schedule_refusal schedule → k ≡ replay_refusal program memory schedule size
+  unfolding replay_refusal first
+  chain_last core e k is = rw (← lengths, eq-eqb size result_length right, ← head, accepted core e, ← is) (alone k (eqb k 0) refl)
+
+  pub begun_ready : (core : Core) → set_up_answer (Ok core) ≡ set_up_of set → 0 ≡ schedule_refusal schedule → Ready core program memory schedule
+  begun_ready core e chain =
+      record {
+        fresh = set_core set core e ∙ ap fresh_machine same;
+        accepted = accepted core e;
+        fits = head_fits schedule (sym head);
+        chain = sym chain;
+      }
+
 module _ (program memory schedule : List ℕ) (size : ℕ) where
-  abbrev set : ℕ
-  set = set_up_refusal (setup_in program memory schedule)
-
-  pub lengths_stop : (n : ℕ) → n ≡ length_refusal program memory → n ≢ 0 → n ≡ replay_refusal program memory schedule size
-  unfolding replay_refusal first
-  lengths_stop n e z = rw (← e, ne_eqb n 0 z)
-
-  pub size_stop : length_refusal program memory ≡ 0 → size ≢ result_length → 26 ≡ replay_refusal program memory schedule size
-  unfolding replay_refusal first
-  size_stop l q = rw (l, ne_eqb size result_length q)
-
-  pub head_stop : (n : ℕ) → length_refusal program memory ≡ 0 → size ≡ result_length → n ≡ head_refusal schedule → n ≢ 0 → n ≡ replay_refusal program memory schedule size
-  unfolding replay_refusal first
-  head_stop n l q e z = rw (l, eq-eqb size result_length q, ← e, ne_eqb n 0 z)
-
-  pub set_stop : (n : ℕ) → length_refusal program memory ≡ 0 → size ≡ result_length → head_refusal schedule ≡ 0 → n ≡ set → n ≢ 0 → n ≡ replay_refusal program memory schedule size
-  unfolding replay_refusal first
-  set_stop n l q h e z = rw (l, eq-eqb size result_length q, h, ← e, ne_eqb n 0 z)
-
-  pub chain_last : (n : ℕ) → length_refusal program memory ≡ 0 → size ≡ result_length → head_refusal schedule ≡ 0 → set ≡ 0 → n ≡ schedule_refusal schedule → n ≡ replay_refusal program memory schedule size
-  unfolding replay_refusal first
-  chain_last n l q h s e = rw (l, eq-eqb size result_length q, h, s, ← e) (alone n (eqb n 0) refl)
+  abbrev set_refusal : ℕ
+  set_refusal = set_up_refusal (setup_in program memory schedule)
 
   -- what holds where none applies
   pub record Unrefused : Type 0 where
     pub lengths : length_refusal program memory ≡ 0
     pub head : head_refusal schedule ≡ 0
-    pub set_up : set ≡ 0
+    pub set_up : set_refusal ≡ 0
     pub chain : schedule_refusal schedule ≡ 0
 
   pub unrefused : replay_refusal program memory schedule size ≡ 0 → Unrefused
   unfolding replay_refusal
   unrefused e =
       let chain = schedule_refusal schedule ∷ [] in
-      let after_head = set ∷ chain in
+      let after_head = set_refusal ∷ chain in
       let after_size = head_refusal schedule ∷ after_head in
       let one = both_none (length_refusal program memory) (when (not (eqb size result_length)) 26 ∷ after_size) e in
       let two = both_none (when (not (eqb size result_length)) 26) after_size one.1 in
       let three = both_none (head_refusal schedule) after_head two.1 in
-      let four = both_none set chain three.1 in
+      let four = both_none set_refusal chain three.1 in
       record { lengths = one.0; head = three.0; set_up = four.0; chain = (both_none (schedule_refusal schedule) [] four.1).0 }
 
   pub size_right : replay_refusal program memory schedule size ≡ 0 → size ≡ result_length
   unfolding replay_refusal
   size_right e =
-      let rest = head_refusal schedule ∷ set ∷ schedule_refusal schedule ∷ [] in
+      let rest = head_refusal schedule ∷ set_refusal ∷ schedule_refusal schedule ∷ [] in
       let one = both_none (length_refusal program memory) (when (not (eqb size result_length)) 26 ∷ rest) e in
       eqb-true size result_length (not-false _ (passed (not (eqb size result_length)) 26 rest refl one.1).0)

@@ -1,6 +1,8 @@
 -- Replay.
-use Rattle.std.specs.Prelude.{ℕ, not, List, [], ◌∷◌, eqb, length, drop, replicate}
+use Rattle.std.specs.Prelude.{ℕ, not, List, [], ◌∷◌, eqb, length, drop, replicate, Result, Ok, Err}
 use Rattle.isa.specs.Reads.{choose}
+use Rattle.refusals.specs.Numbers.{number}
+use Rattle.refusals.specs.declared.Refusal.{Refusal}
 use Rattle.reference.specs.Step.{when, first, length_refusal}
 use Rattle.ranges.specs.Sizes.{set_up_refusal}
 use Rattle.window.specs.Report.{report_of}
@@ -31,7 +33,6 @@ figures_of p =
       halt = p.world.core.halt.cause;
       next = p.world.core.next;
       registers = (report_of p.world.core).registers;
-      number = 0;
     }
 
 -- "accepted, refused, committed, steals, dropped entries, rate, halt cause (0 none), next address, x1–x31"
@@ -39,20 +40,32 @@ abbrev pub words_of : Replayed → List ℕ
 words_of r =
     r.counts.accepted ∷ r.counts.refused ∷ r.counts.committed ∷ r.counts.steals ∷ r.counts.dropped ∷ r.rate ∷ r.halt ∷ r.next ∷ drop 1 r.registers
 
+-- what replay answers: figures, with 0 or the refusal
+pub record Answer : Type 0 where
+  pub figures : Replayed
+  pub number : ℕ
+
+abbrev pub found : Replayed → Answer
+found figures = record { figures = figures; number = 0 }
+
 -- at a refusal
-abbrev pub nothing : ℕ → Replayed
-nothing number = record { counts = no_counts; rate = 0; halt = 0; next = 0; registers = replicate 32 0; number = number }
+abbrev pub nothing : ℕ → Answer
+nothing number = record { figures = record { counts = no_counts; rate = 0; halt = 0; next = 0; registers = replicate 32 0 }; number = number }
+
+abbrev pub answer : Result Replayed Refusal → Answer
+answer (Ok figures) = found figures
+answer (Err refusal) = nothing (number refusal)
 
 -- the answer, and the lent data and result
 pub record Replay : Type 0 where
-  pub answer : Replayed
+  pub answer : Answer
   pub memory : List ℕ
   pub result : List ℕ
 
 abbrev pub replay_by : ℕ → Played → List ℕ → List ℕ → Replay
 replay_by number p memory result =
     choose (eqb number 0)
-    (record { answer = figures_of p; memory = p.world.memory; result = result_bytes (words_of (figures_of p)) })
+    (record { answer = found (figures_of p); memory = p.world.memory; result = result_bytes (words_of (figures_of p)) })
     (record { answer = nothing number; memory = memory; result = result })
 
 unfoldable pub replay_of : List ℕ → List ℕ → List ℕ → List ℕ → Replay

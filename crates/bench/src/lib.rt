@@ -2,18 +2,18 @@
 #![tactic(auto)]
 
 pub mod replaying;
+pub mod words;
 
 use events::Counts;
 pub use replaying::replay;
 
 // What a replay came to: the counts, committed × 1000 ÷ accepted, the halt cause (0 none), the next address and the
-// committed registers; the number is 0, or the refusal, and then all else is 0.
-#[derive(Clone, Copy)]
+// committed registers.
+#[derive(Clone, Copy, Debug, Default, PartialEq, Eq)]
 pub struct Replayed {
     pub counts: Counts,
     pub rate: u32,
     pub halt: u32,
     pub next: u32,
     pub registers: [u32; 32],
-    pub number: u32,
 }

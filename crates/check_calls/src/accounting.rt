@@ -1,87 +1,65 @@
 // Every physical register and every name is in exactly one place: in the pool, committed, or with one entry.
 use renaming::Core;
-use tables::entries;
+use tables::{FreeList, PLACES};
 
-fn once_more(n: u8) -> u8 {
-    if n < 255 { n + 1 } else { n }
+// how often each number was seen; 0 is nobody's
+#[derive(Clone, Copy)]
+struct Seen {
+    counts: [u8; PLACES],
 }
 
-// once more at a number; 0 is nobody's
-fn seen(counts: &mut [u8], number: u8) {
-    let at = number as usize;
-    if at == 0 {
-        return;
+impl Seen {
+    fn add(&mut self, number: u8) {
+        if number != 0
+            && let Some(count) = self.counts.get_mut(number as usize)
+        {
+            *count = count.saturating_add(1);
+        }
     }
-    if at < counts.len() {
-        counts[at] = once_more(counts[at]);
-    }
-}
 
-fn following(link: &[u8], number: u8) -> u8 {
-    let at = number as usize;
-    if at < link.len() { link[at] } else { 0 }
-}
-
-// along the chain; whether it ends within 96 numbers
-fn walk(link: &[u8], head: u8, counts: &mut [u8]) -> bool {
-    let mut at = head;
-    let mut k: usize = 0;
-    while k < 96 && at != 0 {
-        seen(counts, at);
-        at = following(link, at);
-        k += 1;
+    // Along the chain; whether it ends within 96 numbers.
+    fn walk(&mut self, pool: &FreeList) -> bool {
+        let mut at = pool.head;
+        for _ in 0..PLACES {
+            if at == 0 {
+                return true;
+            }
+            self.add(at);
+            at = pool.link.get(at as usize).copied().unwrap_or(0);
+        }
+        at == 0
     }
-    at == 0
-}
 
-fn all_seen(table: &[u8], counts: &mut [u8]) {
-    let mut k: usize = 1;
-    while k < table.len() {
-        seen(counts, table[k]);
-        k += 1;
+    // Whether 1 to last were seen once each, the others never.
+    fn is_each_once(&self, last: usize) -> bool {
+        self.counts
+            .iter()
+            .enumerate()
+            .skip(1)
+            .all(|(k, count)| *count == u8::from(k <= last))
     }
-}
-
-fn entries_seen(m: Core, registers: &mut [u8], names: &mut [u8]) {
-    let count = m.count as usize;
-    let mut k: usize = 0;
-    while k < 64 && k < count {
-        let e = m.entries[k];
-        seen(registers, entries::held(&m.physical, e));
-        seen(names, e.name);
-        k += 1;
-    }
-}
-
-// 1 to last each once, the others never
-fn each_once(counts: &[u8], last: usize) -> bool {
-    let mut right = true;
-    let mut k: usize = 1;
-    while k < counts.len() {
-        let wanted = if k <= last { 1 } else { 0 };
-        right = right & (counts[k] == wanted);
-        k += 1;
-    }
-    right
 }
 
 // Whether every number is accounted for.
-pub fn holds(m: Core) -> bool {
+pub fn holds(m: &Core) -> bool {
     if m.count > 64 {
         return false;
     }
-    let s = m.setup;
-    let names_last = s.window as usize + 31;
-    let mut registers = [0u8; 96];
-    let mut names = [0u8; 96];
-    let end_registers = walk(&m.registerlink, m.registerhead, &mut registers);
-    let end_names = walk(&m.namelink, m.namehead, &mut names);
-    entries_seen(m, &mut registers, &mut names);
-    let empty = m.drop_to(0);
-    all_seen(&empty.mapregister, &mut registers);
-    all_seen(&empty.mapname, &mut names);
-    end_registers
-        & end_names
-        & each_once(&registers, s.registers as usize)
-        & each_once(&names, names_last)
+    let mut registers = Seen {
+        counts: [0; PLACES],
+    };
+    let mut names = registers;
+    let ends = registers.walk(&m.free_registers) && names.walk(&m.free_names);
+    for e in &m.entries[..m.count as usize] {
+        registers.add(e.held(&m.physical));
+        names.add(e.name);
+    }
+    let mut empty = *m;
+    empty.drop_to(0);
+    for (register, name) in empty.map.registers.iter().zip(&empty.map.names).skip(1) {
+        registers.add(*register);
+        names.add(*name);
+    }
+    ends && registers.is_each_once(m.setup.registers as usize)
+        && names.is_each_once(m.setup.window as usize + 31)
 }

@@ -3,72 +3,40 @@ ghost use Rattle.std.specs.Prelude.{◌<◌};
 
 use crate::chance::draw;
 use isa::Instruction;
-use reference::Fetching;
-use renaming::{Answer, Core};
-use tables::{Entry, entries};
-use window::{Call, Machine, Report};
+use renaming::Core;
+use tables::State;
+use window::{Answer, Call, Machine};
 
-// which call is chosen
-const DECODE: u8 = 1;
-
-const ISSUE: u8 = 2;
-
-const COMPLETE: u8 = 3;
-
-const COMMIT: u8 = 4;
-
-fn call(kind: u8, position: usize, guess: u32) -> Call {
-    match kind {
-        DECODE => Call::Decode(guess),
-        ISSUE => Call::Issue(position),
-        COMPLETE => Call::Complete(position),
-        _ => Call::Commit,
-    }
+// Which call is chosen, before its position or guess.
+#[derive(Clone, Copy, PartialEq, Eq)]
+enum Kind {
+    Decode,
+    Issue,
+    Complete,
+    Commit,
 }
 
-pub fn is_commit(c: Call) -> bool {
-    match c {
-        Call::Decode(_) => false,
-        Call::Issue(_) => false,
-        Call::Complete(_) => false,
-        Call::Commit => true,
-    }
+pub fn made(m: &Core, program: &[u8], data: &mut [u8], call: Call) -> Answer {
+    let machine = Machine { core: *m };
+    machine.make(call, program, data)
 }
 
-pub fn made(m: Core, program: &[u8], data: &mut [u8], c: Call) -> Answer {
-    let machine = Machine { core: m };
-    let answer = machine.make(c, program, data);
-    let after = answer.machine;
-    let core = after.core;
-    Answer {
-        core,
-        number: answer.number,
-    }
+// With which lengths a call is made.
+#[derive(Clone, Copy, PartialEq, Eq)]
+pub enum Lent {
+    AsSetUp,
+    OtherProgram,
+    OtherData,
 }
 
-pub fn reported(m: Core) -> Report {
-    let machine = Machine { core: m };
-    machine.report()
-}
-
-// a call; with 0 and 1 another program's or other data's length is lent
-pub fn lent(m: Core, program: &[u8], data: &mut [u8], c: Call, other: u32) -> Answer {
+// A call; 6 answers lengths that are not those of set-up.
+pub fn made_with(m: &Core, program: &[u8], data: &mut [u8], call: Call, lengths: Lent) -> Answer {
     let mut bytes = [0u8; 3];
-    if other == 0 {
-        return made(m, &bytes, data, c);
+    match lengths {
+        Lent::AsSetUp => made(m, program, data, call),
+        Lent::OtherProgram => made(m, &bytes, data, call),
+        Lent::OtherData => made(m, program, &mut bytes, call),
     }
-    if other == 1 {
-        return made(m, program, &mut bytes, c);
-    }
-    made(m, program, data, c)
-}
-
-// waiting, issued, completed by number
-pub fn status(e: Entry) -> u8 {
-    if entries::is_completed(e) {
-        return 2;
-    }
-    if entries::is_issued(e) { 1 } else { 0 }
 }
 
 // k places after or before a start, around 64 places
@@ -82,99 +50,91 @@ fn place(from: u32, k: usize, down: bool) -> usize
     (start + k % 64) % 64
 }
 
-// a position whose entry has this status, the first from a start on and around; 64 where there is none
-fn position_with(m: Core, start: u32, down: bool, wanted: u8) -> usize {
-    let count = m.count as usize;
-    let mut k: usize = 0;
-    while k < 64 {
+// the position of the first entry in this state, from a start on and around
+fn position_of(m: &Core, start: u32, down: bool, wanted: State) -> Option<usize> {
+    for k in 0..64 {
         let at = place(start, k, down);
-        let e = m.entries[at];
-        if (at < count) & (status(e) == wanted) {
-            return at;
+        if at < m.count as usize && m.entries[at].state == wanted {
+            return Some(at);
         }
-        k += 1;
     }
-    64
+    None
 }
 
 // mostly calls that are not refused: where the window is full seldom decode, where the oldest is not completed seldom commit
-fn kind(m: Core, x: u32) -> u8 {
-    let s = m.setup;
-    let oldest = m.entries[0];
-    let full = m.count == s.window;
+fn chosen_kind(m: &Core, x: u32) -> Kind {
+    let full = m.count == m.setup.window;
     let seldom = x / 16 % 16 == 0;
     match x % 16 {
-        0 | 1 | 2 | 3 | 4 | 5 | 6 | 7 => {
-            if full & !seldom {
-                return ISSUE;
-            }
-            DECODE
-        }
-        8 | 9 | 10 => ISSUE,
-        11 | 12 | 13 => COMPLETE,
-        _ => {
-            if (status(oldest) != 2) & !seldom {
-                return COMPLETE;
-            }
-            COMMIT
-        }
+        0..=7 if full && !seldom => Kind::Issue,
+        0..=7 => Kind::Decode,
+        8..=10 => Kind::Issue,
+        11..=13 => Kind::Complete,
+        _ if m.entries[0].state != State::Completed && !seldom => Kind::Complete,
+        _ => Kind::Commit,
     }
 }
 
 // where a branch or jump at the fetch address would go
-fn target(i: Instruction, address: u32, registers: [u32; 32]) -> u32 {
-    let constant = word::to_word(i.constant);
+fn target(i: Instruction, address: u32, registers: &[u32; 32]) -> u32 {
+    let constant = i.constant.cast_unsigned();
     if i.operation != 4 {
-        return word::add(address, constant);
+        return address.wrapping_add(constant);
     }
-    let at = i.rs1 as usize;
-    if at < 32 {
-        let to = word::add(registers[at], constant);
-        return to - to % 2;
+    match registers.get(i.rs1 as usize) {
+        Some(value) => {
+            let to = value.wrapping_add(constant);
+            to - to % 2
+        }
+        None => 0,
     }
-    0
 }
 
 // the next address, the target, a near address, or any number
-fn guess(program: &[u8], address: u32, registers: [u32; 32], x: u32) -> u32 {
-    let after = word::add(address, 4);
-    let to = match reference::fetch(program, address) {
-        Fetching::Found(i) => target(i, address, registers),
-        Fetching::Stopped(_) => 0,
-    };
+fn guess(program: &[u8], address: u32, registers: &[u32; 32], x: u32) -> u32 {
     match x % 8 {
         0 => x / 8 % 64 * 4,
         1 => x,
-        2 | 3 | 4 => to,
-        _ => after,
+        2..=4 => match reference::fetch(program, address) {
+            Ok(i) => target(i, address, registers),
+            Err(_) => 0,
+        },
+        _ => address.wrapping_add(4),
     }
 }
 
 // The call that document 01's further calls make on this machine.
-pub fn further(m: Core) -> Call {
+pub fn further(m: &Core) -> Call {
     if m.count == 0 {
-        return Call::Decode(word::add(m.fetch, 4));
+        return Call::Decode(m.fetch.wrapping_add(4));
     }
-    let oldest = m.entries[0];
-    match status(oldest) {
-        0 => Call::Issue(0),
-        1 => Call::Complete(0),
-        _ => Call::Commit,
+    match m.entries[0].state {
+        State::Waits => Call::Issue(0),
+        State::Issued => Call::Complete(0),
+        State::Completed => Call::Commit,
     }
 }
 
 // A call for the machine: mostly one that brings it on, sometimes any.
-pub fn chosen(m: Core, program: &[u8], registers: [u32; 32], seed: u32) -> Call {
-    let kind = kind(m, draw(seed, 1));
+pub fn chosen(m: &Core, program: &[u8], registers: &[u32; 32], seed: u32) -> Call {
+    let kind = chosen_kind(m, draw(seed, 1));
     let x = draw(seed, 2);
-    let wanted = if kind == ISSUE { 0 } else { 1 };
-    let near = position_with(m, x / 64, x % 4 != 0, wanted);
-    let any = (x / 64 % 80) as usize;
-    let at_random = x % 32 == 0;
-    if (near == 64) & !at_random & ((kind == ISSUE) | (kind == COMPLETE)) {
-        return further(m);
+    let wanted = if kind == Kind::Issue {
+        State::Waits
+    } else {
+        State::Issued
+    };
+    let near = position_of(m, x / 64, x % 4 != 0, wanted);
+    let position = if x % 32 == 0 {
+        Some((x / 64 % 80) as usize)
+    } else {
+        near
+    };
+    match (kind, position) {
+        (Kind::Decode, _) => Call::Decode(guess(program, m.fetch, registers, draw(seed, 3))),
+        (Kind::Issue, Some(position)) => Call::Issue(position),
+        (Kind::Complete, Some(position)) => Call::Complete(position),
+        (Kind::Commit, _) => Call::Commit,
+        (Kind::Issue | Kind::Complete, None) => further(m),
     }
-    let position = if at_random { any } else { near };
-    let guess = guess(program, m.fetch, registers, draw(seed, 3));
-    call(kind, position, guess)
 }

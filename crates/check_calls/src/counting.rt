@@ -1,98 +1,102 @@
-// What was seen, each kind at its place of a table of counts.
+// What was seen.
 use renaming::Core;
+use std::io;
 use window::Call;
 
-pub const LISTS: usize = 0;
-
-pub const CALLS: usize = 1;
-
-pub const ACCEPTED: usize = 2;
-
-pub const STEALS: usize = 3;
-
-pub const DROPPED: usize = 4;
-
-pub const WRONG: usize = 5;
-
-pub const COMMITS: usize = 6;
-
-pub const ROUNDS: usize = 7;
-
-pub const DIFFERENCES: usize = 8;
-
-pub const VIOLATIONS: usize = 9;
-
-// from here on refusals by number
-pub const REFUSED: usize = 16;
-
-// from here on halts by cause
-pub const HALTS: usize = 48;
-
-pub fn more(counts: &mut [u64], at: usize, by: u64) {
-    if at < counts.len() {
-        counts[at] = std::num::wrapping_add_u64(counts[at], by);
-    }
+#[derive(Clone, Copy, Default)]
+pub struct Counts {
+    pub lists: u64,
+    pub calls: u64,
+    pub accepted: u64,
+    // by the refusal's number
+    pub refused: [u64; 32],
+    pub steals: u64,
+    pub dropped: u64,
+    pub wrong_predictions: u64,
+    pub commits: u64,
+    // by the cause
+    pub halts: [u64; 8],
+    pub rounds: u64,
+    pub differences: u64,
+    pub violations: u64,
 }
 
-pub fn at(counts: &[u64], at: usize) -> u64 {
-    if at < counts.len() { counts[at] } else { 0 }
+pub fn add(count: &mut u64, by: u64) {
+    *count = count.wrapping_add(by);
 }
 
-// one more where it is not so
-pub fn expect(counts: &mut [u64], at: usize, right: bool) {
-    if !right {
-        more(counts, at, 1);
-    }
-}
-
-// how many entries left, besides one that commits
-fn left(before: u8, after: u8) -> u64 {
-    if before > after {
-        (before - after) as u64
-    } else {
-        0
+fn add_at(counts: &mut [u64], at: u8) {
+    if let Some(count) = counts.get_mut(at as usize) {
+        add(count, 1);
     }
 }
 
 // a destination without a cause while no register was free
-fn is_steal(before: Core, after: Core, position: usize) -> bool {
-    if position < 64 {
-        let e = after.entries[position];
-        let stop = e.stop;
-        return (before.registerhead == 0) & (e.destination != 0) & (stop.cause == 0);
+fn is_steal(before: &Core, after: &Core, position: usize) -> bool {
+    match after.entries.get(position) {
+        Some(e) => { before.free_registers.head == 0 && e.destination != 0 && e.stop.cause == 0 }
+        None => false,
     }
-    false
 }
 
-fn completed(counts: &mut [u64], before: Core, after: Core, position: usize) {
-    let gone = left(before.count, after.count);
-    more(counts, DROPPED, gone);
-    expect(counts, WRONG, (gone == 0) & (before.fetch == after.fetch));
-    expect(counts, STEALS, !is_steal(before, after, position));
-}
-
-fn committed(counts: &mut [u64], before: u8, cause: u8) {
-    if cause == 0 {
-        more(counts, COMMITS, 1);
-        return;
+impl Counts {
+    pub fn expect_no_difference(&mut self, right: bool) {
+        add(&mut self.differences, u64::from(!right));
     }
-    more(counts, HALTS + cause as usize, 1);
-    more(counts, DROPPED, left(before, 1));
-}
 
-// A call that was made.
-pub fn told(counts: &mut [u64], before: Core, after: Core, c: Call, number: u8) {
-    more(counts, CALLS, 1);
-    if number != 0 {
-        more(counts, REFUSED + number as usize, 1);
-        return;
+    pub fn expect_no_violation(&mut self, right: bool) {
+        add(&mut self.violations, u64::from(!right));
     }
-    more(counts, ACCEPTED, 1);
-    let halt = after.halt;
-    match c {
-        Call::Decode(_) => {}
-        Call::Issue(_) => {}
-        Call::Complete(position) => completed(counts, before, after, position),
-        Call::Commit => committed(counts, before.count, halt.cause),
+
+    fn completed(&mut self, before: &Core, after: &Core, position: usize) {
+        let gone = before.count.saturating_sub(after.count);
+        add(&mut self.dropped, u64::from(gone));
+        let wrong = gone != 0 || before.fetch != after.fetch;
+        add(&mut self.wrong_predictions, u64::from(wrong));
+        let stole = is_steal(before, after, position);
+        add(&mut self.steals, u64::from(stole));
+    }
+
+    fn committed(&mut self, before: &Core, after: &Core) {
+        if after.halt.cause == 0 {
+            add(&mut self.commits, 1);
+        } else {
+            add_at(&mut self.halts, after.halt.cause);
+            add(&mut self.dropped, u64::from(before.count.saturating_sub(1)));
+        }
+    }
+
+    // A call that was made.
+    pub fn made(&mut self, before: &Core, after: &Core, call: Call, number: u8) {
+        add(&mut self.calls, 1);
+        if number != 0 {
+            add_at(&mut self.refused, number);
+            return;
+        }
+        add(&mut self.accepted, 1);
+        match call {
+            Call::Decode(_) | Call::Issue(_) => {}
+            Call::Complete(position) => self.completed(before, after, position),
+            Call::Commit => self.committed(before, after),
+        }
+    }
+
+    pub fn print(&self, rt: &impl Print) -> io::Result<()> {
+        println!(rt; "lists {}", self.lists)?;
+        println!(rt; "calls {}", self.calls)?;
+        println!(rt; "accepted {}", self.accepted)?;
+        for number in [5, 6, 10, 11, 12, 13, 14, 15, 16] {
+            println!(rt; "refused by {number} {}", self.refused[number])?;
+        }
+        println!(rt; "steals {}", self.steals)?;
+        println!(rt; "dropped {}", self.dropped)?;
+        println!(rt; "wrong predictions {}", self.wrong_predictions)?;
+        println!(rt; "commits {}", self.commits)?;
+        for cause in 1..8 {
+            println!(rt; "halts with {cause} {}", self.halts[cause])?;
+        }
+        println!(rt; "rounds of further calls {}", self.rounds)?;
+        println!(rt; "differences {}", self.differences)?;
+        println!(rt; "violations {}", self.violations)
     }
 }

@@ -1,219 +1,163 @@
 // Lists of calls from a fresh machine, beside the in-order run.
+use crate::calls::Lent;
 use crate::chance::draw;
-use crate::comparing::Ordered;
-use crate::{accounting, calls, chance, comparing, counting, damage, programs, resting};
+use crate::counting::{Counts, add};
+use crate::ordered::Ordered;
+use crate::{accounting, calls, chance, damage, programs, resting};
 use renaming::Core;
 use window::{Call, Machine};
 
+// A machine and the in-order run. What is lent to them, program, data and the in-order run's own data, goes beside: tried as
+// fields, and the borrow checker does not cover the calls that are lent two of them.
 #[derive(Clone, Copy)]
 struct Run {
     core: Core,
     ordered: Ordered,
 }
 
-// what is to hold after a call: a refused one changed nothing, and other lengths are refused by 6
-fn judged(
-    before: Core,
-    after: Core,
-    o: Ordered,
-    same_data: bool,
-    c: Call,
-    number: u8,
-    other: u32,
-    counts: &mut [u64],
-) {
-    counting::told(counts, before, after, c, number);
-    let kept = (number == 0) | comparing::same(before, after);
-    let lengths = (other >= 2) | (number == 6);
-    let agrees = comparing::agrees(after, o) & same_data;
-    counting::expect(counts, counting::DIFFERENCES, kept & lengths & agrees);
-    let rests = accounting::holds(after) & resting::rests(after);
-    counting::expect(counts, counting::VIOLATIONS, rests);
+// Whether the turns end at a halt or go on through it.
+#[derive(Clone, Copy, PartialEq, Eq)]
+enum Until {
+    Halt,
+    Through,
 }
 
-// a call with the lengths of set-up, or with others
-fn called(
-    r: Run,
-    program: &[u8],
-    data: &mut [u8],
-    want: &mut [u8],
-    c: Call,
-    other: u32,
-    counts: &mut [u64],
-) -> Run {
-    let before = r.core;
-    let o = r.ordered;
-    let a = calls::lent(before, program, data, c, other);
-    let after = a.core;
-    let commits = (a.number == 0) & calls::is_commit(c);
-    let ordered = comparing::stepped(o, program, want, commits);
-    let same_data = check::same(data, want);
-    judged(
-        before, after, ordered, same_data, c, a.number, other, counts,
-    );
-    Run {
-        core: after,
-        ordered,
+impl Run {
+    // A call, and what is to hold after it: a refused one changed nothing, and other lengths are refused by 6.
+    fn call(
+        &mut self,
+        program: &[u8],
+        data: &mut [u8],
+        want: &mut [u8],
+        call: Call,
+        lengths: Lent,
+        counts: &mut Counts,
+    ) {
+        let before = self.core;
+        let a = calls::made_with(&before, program, data, call, lengths);
+        let after = a.machine.core;
+        self.core = after;
+        if a.number == 0 && matches!(call, Call::Commit) {
+            self.ordered.step(program, want);
+        }
+        counts.made(&before, &after, call, a.number);
+        let kept = a.number == 0 || before == after;
+        let refused = lengths == Lent::AsSetUp || a.number == 6;
+        let agrees = check::same(data, want) && self.ordered.agrees(&after);
+        counts.expect_no_difference(kept && refused && agrees);
+        counts.expect_no_violation(accounting::holds(&after) && resting::rests(&after));
+    }
+
+    // At most four calls, all accepted, the last a commit.
+    fn further(&mut self, program: &[u8], data: &mut [u8], want: &mut [u8], counts: &mut Counts) {
+        let start = counts.accepted;
+        let mut made = 0;
+        let mut committed = false;
+        for _ in 0..4 {
+            let call = calls::further(&self.core);
+            self.call(program, data, want, call, Lent::AsSetUp, counts);
+            add(&mut made, 1);
+            if matches!(call, Call::Commit) {
+                committed = true;
+                break;
+            }
+        }
+        add(&mut counts.rounds, 1);
+        let accepted = counts.accepted == start.wrapping_add(made);
+        counts.expect_no_difference(accepted && committed);
+    }
+
+    fn turn(
+        &mut self,
+        program: &[u8],
+        data: &mut [u8],
+        want: &mut [u8],
+        seed: u32,
+        counts: &mut Counts,
+    ) {
+        let pick = draw(seed, 0) % 96;
+        if pick < 2 && self.ordered.cause == 0 {
+            self.further(program, data, want, counts);
+            return;
+        }
+        let call = calls::chosen(&self.core, program, &self.ordered.registers, seed);
+        if pick == 2 {
+            damage::tried(&self.core, program, data, call, draw(seed, 4), counts);
+            return;
+        }
+        let lengths = match (pick, draw(seed, 5) % 2) {
+            (3, 0) => Lent::OtherProgram,
+            (3, _) => Lent::OtherData,
+            _ => Lent::AsSetUp,
+        };
+        self.call(program, data, want, call, lengths, counts);
+    }
+
+    // So many turns, until a halt or through it.
+    fn turns(
+        &mut self,
+        program: &[u8],
+        data: &mut [u8],
+        want: &mut [u8],
+        seed: u32,
+        n: u32,
+        until: Until,
+        counts: &mut Counts,
+    ) {
+        let mut seed = seed;
+        for _ in 0..n {
+            seed = chance::next(seed);
+            self.turn(program, data, want, seed, counts);
+            if until == Until::Halt && self.core.halt.cause != 0 {
+                break;
+            }
+        }
+    }
+
+    // A few turns more through a halt, or without a halt the further calls.
+    fn end(
+        &mut self,
+        program: &[u8],
+        data: &mut [u8],
+        want: &mut [u8],
+        seed: u32,
+        counts: &mut Counts,
+    ) {
+        if self.core.halt.cause != 0 {
+            self.turns(program, data, want, seed, 5, Until::Through, counts);
+        } else {
+            self.further(program, data, want, counts);
+        }
     }
 }
 
-// at most four calls, all accepted, the last a commit
-fn further(r: Run, program: &[u8], data: &mut [u8], want: &mut [u8], counts: &mut [u64]) -> Run {
-    let start = counting::at(counts, counting::ACCEPTED);
-    let mut r = r;
-    let mut committed = false;
-    let mut k = 0u64;
-    while k < 4 && !committed {
-        let m = r.core;
-        let c = calls::further(m);
-        committed = calls::is_commit(c);
-        r = called(r, program, data, want, c, 2, counts);
-        k += 1;
-    }
-    let accepted = counting::at(counts, counting::ACCEPTED) == std::num::wrapping_add_u64(start, k);
-    counting::more(counts, counting::ROUNDS, 1);
-    counting::expect(counts, counting::DIFFERENCES, accepted & committed);
-    r
-}
+const WINDOWS: [u32; 6] = [1, 2, 3, 4, 8, 64];
 
-fn turn(
-    r: Run,
-    program: &[u8],
-    data: &mut [u8],
-    want: &mut [u8],
-    seed: u32,
-    counts: &mut [u64],
-) -> Run {
-    let pick = draw(seed, 0) % 96;
-    let m = r.core;
-    let o = r.ordered;
-    let halted = o.cause != 0;
-    if (pick < 2) & !halted {
-        return further(r, program, data, want, counts);
-    }
-    let values = o.registers;
-    let c = calls::chosen(m, program, values, seed);
-    if pick == 2 {
-        damage::tried(m, program, data, c, draw(seed, 4), counts);
-        return r;
-    }
-    let other = if pick == 3 { draw(seed, 5) % 2 } else { 2 };
-    called(r, program, data, want, c, other, counts)
-}
+const REGISTERS: [u32; 8] = [32, 32, 33, 33, 34, 34, 40, 95];
 
-// so many turns, until a halt or through it
-fn turns(
-    r: Run,
-    program: &[u8],
-    data: &mut [u8],
-    want: &mut [u8],
-    seed: u32,
-    n: u32,
-    through: bool,
-    counts: &mut [u64],
-) -> Run {
-    let mut r = r;
-    let mut seed = seed;
-    let mut left = n;
-    let mut going = true;
-    while left > 0 && going {
-        seed = chance::next(seed);
-        r = turn(r, program, data, want, seed, counts);
-        let m = r.core;
-        let halt = m.halt;
-        going = through | (halt.cause == 0);
-        left -= 1;
-    }
-    r
-}
-
-fn window(k: u32) -> u32 {
-    match k {
-        0 => 1,
-        1 => 2,
-        2 => 3,
-        3 => 4,
-        4 => 8,
-        _ => 64,
-    }
-}
-
-fn registers(k: u32) -> u32 {
-    match k {
-        0 | 1 => 32,
-        2 | 3 => 33,
-        4 | 5 => 34,
-        6 => 40,
-        _ => 95,
-    }
-}
-
-// after the turns: a few more through a halt, or without a halt the further calls
-fn ended(
-    r: Run,
-    program: &[u8],
-    data: &mut [u8],
-    want: &mut [u8],
-    seed: u32,
-    counts: &mut [u64],
-) -> Run {
-    let m = r.core;
-    let halt = m.halt;
-    if halt.cause != 0 {
-        return turns(r, program, data, want, seed, 5, true, counts);
-    }
-    further(r, program, data, want, counts)
-}
-
-fn fresh(w: u32, n: u32, program: usize, bytes: usize) -> Run {
-    let a = Machine::set_up(w, n, program, bytes);
-    let machine = a.machine;
-    let core = machine.core;
-    let ordered = Ordered {
-        registers: [0; 32],
-        address: 0,
-        cause: 0,
-    };
-    Run { core, ordered }
-}
-
-// a whole list
-fn play(program: &[u8], data: &mut [u8], want: &mut [u8], k: u32, seed: u32, counts: &mut [u64]) {
-    let r = fresh(
-        window(k % 6),
-        registers(k / 6 % 8),
-        program.len(),
-        data.len(),
-    );
-    let r = turns(r, program, data, want, seed, 200, false, counts);
-    ended(r, program, data, want, chance::next(seed), counts);
-    counting::more(counts, counting::LISTS, 1);
-}
-
-fn list(k: u32, counts: &mut [u64]) {
-    let seed = std::num::wrapping_add_u32(draw(0x1234_5678, k), 1);
+// A whole list.
+pub fn list(k: u32, counts: &mut Counts) {
+    let seed = draw(0x1234_5678, k).wrapping_add(1);
     let mut program = [0u8; 256];
     let mut data = [0u8; 64];
-    let mut want = [0u8; 64];
-    programs::fill(&mut program, seed, true);
-    programs::fill(&mut data, seed, false);
-    programs::fill(&mut want, seed, false);
+    programs::fill_program(&mut program, seed);
+    programs::fill_data(&mut data, seed);
+    let mut want = data;
     let words = (16 + draw(seed, 100) % 49) as usize;
     let bytes = (40 + draw(seed, 101) % 25) as usize;
-    play(
-        &program[0..4 * words],
-        &mut data[0..bytes],
-        &mut want[0..bytes],
-        k,
-        seed,
-        counts,
+    let window = WINDOWS[(k % 6) as usize];
+    let registers = REGISTERS[(k / 6 % 8) as usize];
+    let fresh = Machine::set_up(window, registers, 4 * words, bytes);
+    let mut run = Run {
+        core: fresh.machine.core,
+        ordered: Ordered::default(),
+    };
+    let (program, data, want) = (
+        &program[..4 * words],
+        &mut data[..bytes],
+        &mut want[..bytes],
     );
-}
-
-pub fn all(n: u32, counts: &mut [u64]) {
-    let mut k = 0u32;
-    while k < n {
-        list(k, counts);
-        k += 1;
-    }
+    run.turns(program, data, want, seed, 200, Until::Halt, counts);
+    run.end(program, data, want, chance::next(seed), counts);
+    add(&mut counts.lists, 1);
 }

@@ -1,39 +1,31 @@
 // What document 01 says of a machine between calls, whatever they were.
-use crate::comparing;
 use renaming::Core;
-use tables::{Entry, entries};
+use tables::{Entry, GeneralMap, State};
 
 // "The general map's register is zero while valid is clear."
-fn map_rests(m: Core) -> bool {
-    let mut right = true;
-    let mut k: usize = 0;
-    while k < 32 {
-        right = right & (m.mapvalid[k] | (m.mapregister[k] == 0));
-        k += 1;
-    }
-    right
+fn map_rests(map: &GeneralMap) -> bool {
+    map.valid
+        .iter()
+        .zip(&map.registers)
+        .all(|(valid, register)| *valid || *register == 0)
 }
 
-// "A waiting entry's values and result are zero; a place past the last entry is all zeros."
-fn entry_rests(e: Entry, there: bool) -> bool {
-    if there {
-        return !entries::is_waiting(e) | ((e.first == 0) & (e.second == 0) & (e.result == 0));
-    }
-    comparing::same_entry(e, entries::empty())
+// "A waiting entry's values and result are zero"
+fn entry_rests(e: &Entry) -> bool {
+    e.state != State::Waits || (e.first == 0 && e.second == 0 && e.result == 0)
 }
 
-fn entries_rest(m: Core) -> bool {
-    let count = m.count as usize;
-    let mut right = true;
-    let mut k: usize = 0;
-    while k < 64 {
-        let e = m.entries[k];
-        right = right & entry_rests(e, k < count);
-        k += 1;
-    }
-    right
+// "a place past the last entry is all zeros"
+fn entries_rest(m: &Core) -> bool {
+    m.entries.iter().enumerate().all(|(k, e)| {
+        if k < m.count as usize {
+            entry_rests(e)
+        } else {
+            *e == Entry::default()
+        }
+    })
 }
 
-pub fn rests(m: Core) -> bool {
-    map_rests(m) & entries_rest(m)
+pub fn rests(m: &Core) -> bool {
+    map_rests(&m.map) && entries_rest(m)
 }

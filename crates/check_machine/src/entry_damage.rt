@@ -1,209 +1,202 @@
 // Damage to an entry at either end of the window, and the same entry past the count.
-use crate::damage::{above, names_of};
 use crate::judging::Tally;
-use crate::samples::Case;
-use crate::{instruction_cases, judging, samples, store_cases};
+use crate::limits::{above, names_of};
+use crate::samples::{Case, STATES, instruction, plain};
+use crate::{instruction_cases, store_cases};
+use execution::Stop;
+use isa::Instruction;
 use renaming::Core;
-use tables::Operand;
+use tables::{Entry, Operand, State};
 
-pub const INSTRUCTIONS: u8 = 32;
-
-pub const NO_INSTRUCTION: u8 = 33;
-
-pub const NUMBERS: u8 = 34;
-
-pub const OPERANDS: u8 = 35;
-
-pub const CAUSES: u8 = 36;
-
-pub const STORES: u8 = 37;
-
-pub const WORDS: u8 = 38;
-
-fn unknown_operation(k: u32) -> u8 {
-    match k {
-        0 => 0,
-        1 => 40,
-        2 => 128,
-        _ => 255,
+// with the count just below the entry, and with the entry below the count
+fn at_place(m: &Core, at: u8, c: &Case, looked_at: bool, t: &mut Tally) {
+    let mut changed = *m;
+    if let Some(place) = changed.entries.get_mut(at as usize) {
+        *place = c.entry;
     }
-}
-
-fn fields(k: u32, operation: u8) -> isa::Instruction {
-    match k {
-        0 => samples::instruction(operation, 0, 0, 0, 0),
-        1 => samples::instruction(operation, 1, 0, 0, 0),
-        2 => samples::instruction(operation, 0, 1, 0, 0),
-        3 => samples::instruction(operation, 0, 0, 1, 0),
-        4 => samples::instruction(operation, 0, 0, 0, 1),
-        _ => samples::instruction(operation, 0, 0, 0, -1),
+    if at >= m.count {
+        t.ignored(&changed);
+        return;
     }
-}
-
-// four operations that are none, six choices of fields, three states, causes 0 to 7: operation 0 with zero fields passes
-// completed with cause 1 or 4
-fn no_instruction(k: u32) -> Case {
-    let operation = unknown_operation(k % 4);
-    let choice = k / 4 % 6;
-    let status = k / 24 % 3;
-    let cause = (k / 72 % 8) as u8;
-    let e = samples::with_instruction(samples::plain(), fields(choice, operation));
-    let passes = (operation == 0) & (choice == 0) & (status == 2) & ((cause == 1) | (cause == 4));
-    Case {
-        entry: samples::with_status(e, status, cause),
-        refused: !passes,
-    }
-}
-
-// none, the limit, one above it, 255
-fn about(k: u32, limit: u8) -> u8 {
-    match k {
-        0 => 0,
-        1 => limit,
-        2 => above(limit),
-        _ => 255,
-    }
-}
-
-// destination, name and previous name, in three states
-fn number_case(k: u32, names: u8) -> Case {
-    let which = k / 4 % 3;
-    let limit = if which == 0 { 31 } else { names };
-    let number = about(k % 4, limit);
-    let mut e = samples::with_status(samples::plain(), k / 12, 0);
-    if which == 0 {
-        e.destination = number;
-    } else if which == 1 {
-        e.name = number;
+    t.ignored(&Core {
+        count: at,
+        ..changed
+    });
+    if looked_at {
+        t.looked_at(&changed, c.refused);
     } else {
-        e.previous = number;
-    }
-    Case {
-        entry: e,
-        refused: k % 4 >= 2,
+        t.ignored(&changed);
     }
 }
 
-// waiting on a name; ready with a name; ready with a register
-fn operand(k: u32, names: u8, registers: u8) -> Operand {
-    match k / 4 {
-        0 => Operand::Waiting(about(k % 4, names)),
-        1 => Operand::Ready(about(k % 4, names), registers),
-        _ => Operand::Ready(names, about(k % 4, registers)),
+// at the oldest place and at the last of the window
+fn at_ends(m: &Core, c: &Case, looked_at: bool, t: &mut Tally) {
+    at_place(m, 0, c, looked_at, t);
+    if m.setup.window > 1 {
+        at_place(m, m.setup.window - 1, c, looked_at, t);
+    }
+}
+
+fn with(e: Entry, state: State, cause: u8) -> Entry {
+    Entry {
+        state,
+        stop: Stop { cause },
+        ..e
+    }
+}
+
+pub fn instructions(m: &Core, t: &mut Tally) {
+    for operation in 1..40u8 {
+        for case in instruction_cases::cases(operation) {
+            for state in STATES {
+                let cause = u8::from(state == State::Completed);
+                let entry = Entry {
+                    instruction: case.instruction,
+                    ..with(plain(), state, cause)
+                };
+                let refused = case.refused;
+                at_ends(m, &Case { entry, refused }, true, t);
+            }
+        }
+    }
+}
+
+// an operation without fields, or with one of them not 0
+fn fields(operation: u8) -> [Instruction; 6] {
+    [
+        instruction(operation, 0, 0, 0, 0),
+        instruction(operation, 1, 0, 0, 0),
+        instruction(operation, 0, 1, 0, 0),
+        instruction(operation, 0, 0, 1, 0),
+        instruction(operation, 0, 0, 0, 1),
+        instruction(operation, 0, 0, 0, -1),
+    ]
+}
+
+// Four operations that are none, six choices of fields, three states, causes 0 to 7: operation 0 with zero fields passes
+// completed with cause 1 or 4.
+pub fn no_instruction(m: &Core, t: &mut Tally) {
+    for operation in [0, 40, 128, 255] {
+        for (choice, instruction) in fields(operation).iter().enumerate() {
+            for state in STATES {
+                for cause in 0..8u8 {
+                    let passes = operation == 0
+                        && choice == 0
+                        && state == State::Completed
+                        && (cause == 1 || cause == 4);
+                    let entry = Entry {
+                        instruction: *instruction,
+                        ..with(plain(), state, cause)
+                    };
+                    let refused = !passes;
+                    at_ends(m, &Case { entry, refused }, true, t);
+                }
+            }
+        }
+    }
+}
+
+// none, the limit, one above it, 255, and whether that is to be refused
+fn about(limit: u8) -> [(u8, bool); 4] {
+    [
+        (0, false),
+        (limit, false),
+        (above(limit), true),
+        (255, true),
+    ]
+}
+
+// Destination, name and previous name, in three states.
+pub fn numbers(m: &Core, t: &mut Tally) {
+    for state in STATES {
+        let e = with(plain(), state, 0);
+        for (destination, refused) in about(31) {
+            let entry = Entry { destination, ..e };
+            at_ends(m, &Case { entry, refused }, true, t);
+        }
+        for (name, refused) in about(names_of(m)) {
+            let entry = Entry { name, ..e };
+            at_ends(m, &Case { entry, refused }, true, t);
+        }
+        for (previous, refused) in about(names_of(m)) {
+            let entry = Entry { previous, ..e };
+            at_ends(m, &Case { entry, refused }, true, t);
+        }
     }
 }
 
 // the left operand or the right one, in three states
-fn operand_case(k: u32, names: u8, registers: u8) -> Case {
-    let e = samples::with_status(samples::plain(), k / 24, 0);
-    let operand = operand(k % 12, names, registers);
-    let entry = if k / 12 % 2 == 0 {
-        samples::with_operands(e, operand, Operand::Zero)
-    } else {
-        samples::with_operands(e, Operand::Zero, operand)
-    };
-    Case {
-        entry,
-        refused: k % 4 >= 2,
+fn operand(m: &Core, operand: Operand, refused: bool, t: &mut Tally) {
+    for state in STATES {
+        for (left, right) in [(operand, Operand::Zero), (Operand::Zero, operand)] {
+            let entry = Entry {
+                left,
+                right,
+                ..with(plain(), state, 0)
+            };
+            at_ends(m, &Case { entry, refused }, true, t);
+        }
     }
 }
 
-// causes 0 to 9 and 255 in three states
-fn cause_case(k: u32) -> Case {
-    let cause = if k % 11 < 10 { (k % 11) as u8 } else { 255 };
-    let status = k / 11;
-    Case {
-        entry: samples::with_status(samples::plain(), status, cause),
-        refused: (cause > 7) | ((status != 2) & (cause != 0)),
+// Waiting on a name; ready with a name; ready with a register.
+pub fn operands(m: &Core, t: &mut Tally) {
+    let names = names_of(m);
+    let registers = m.setup.registers;
+    for (name, refused) in about(names) {
+        operand(m, Operand::Waiting(name), refused, t);
+        operand(m, Operand::Ready(name, registers), refused, t);
+    }
+    for (register, refused) in about(registers) {
+        operand(m, Operand::Ready(names, register), refused, t);
     }
 }
 
-fn word(k: u32) -> u32 {
-    match k {
-        0 => 2,
-        1 => 0x8000_0000,
-        _ => 0xffff_ffff,
+// Causes 0 to 9 and 255 in three states.
+pub fn causes(m: &Core, t: &mut Tally) {
+    for cause in [0, 1, 2, 3, 4, 5, 6, 7, 8, 9, 255] {
+        for state in STATES {
+            let entry = with(plain(), state, cause);
+            let refused = cause > 7 || (state != State::Completed && cause != 0);
+            at_ends(m, &Case { entry, refused }, true, t);
+        }
     }
 }
 
-// what 5 does not look at, in three states
-fn words_case(k: u32) -> Case {
-    let word = word(k % 3);
-    let mut e = samples::with_status(samples::plain(), k / 15, 0);
-    let which = k / 3 % 5;
-    if which == 0 {
-        e.address = word;
-    } else if which == 1 {
-        e.predicted = word;
-    } else if which == 2 {
-        e.first = word;
-    } else if which == 3 {
-        e.second = word;
-    } else {
-        e.result = word;
+pub fn stores(m: &Core, t: &mut Tally) {
+    for size in [1, 2, 4] {
+        for place in store_cases::places(m.setup.bytes, size) {
+            for (state, cause) in store_cases::ENDINGS {
+                let case = store_cases::store(m.setup.bytes, size, place, state, cause);
+                at_ends(m, &case, true, t);
+            }
+        }
     }
-    Case {
-        entry: e,
-        refused: false,
+    for place in store_cases::places(m.setup.bytes, 4) {
+        for (state, cause) in store_cases::ENDINGS {
+            at_ends(m, &store_cases::load(place, state, cause), true, t);
+        }
     }
 }
 
-fn cases(kind: u8) -> u32 {
-    match kind {
-        INSTRUCTIONS => instruction_cases::CASES,
-        NO_INSTRUCTION => 576,
-        NUMBERS => 36,
-        OPERANDS => 72,
-        CAUSES => 33,
-        STORES => store_cases::CASES,
-        _ => 45,
+// What 5 does not look at, in three states.
+pub fn words(m: &Core, t: &mut Tally) {
+    for state in STATES {
+        let e = with(plain(), state, 0);
+        for word in [2, 0x8000_0000, 0xffff_ffff] {
+            for entry in [
+                Entry { address: word, ..e },
+                Entry {
+                    predicted: word,
+                    ..e
+                },
+                Entry { first: word, ..e },
+                Entry { second: word, ..e },
+                Entry { result: word, ..e },
+            ] {
+                let refused = false;
+                at_ends(m, &Case { entry, refused }, false, t);
+            }
+        }
     }
-}
-
-fn case(kind: u8, m: Core, k: u32) -> Case {
-    let s = m.setup;
-    match kind {
-        INSTRUCTIONS => instruction_cases::case(k),
-        NO_INSTRUCTION => no_instruction(k),
-        NUMBERS => number_case(k, names_of(m)),
-        OPERANDS => operand_case(k, names_of(m), s.registers),
-        CAUSES => cause_case(k),
-        STORES => store_cases::case(k, s.bytes),
-        _ => words_case(k),
-    }
-}
-
-// with the entry below the count, and with the count just below the entry
-fn at_place(m: Core, at: u8, c: Case, kind: u8, t: Tally) -> Tally {
-    let e = c.entry;
-    let changed = samples::with_entry(m, at as usize, e);
-    if at >= m.count {
-        return judging::ignored(t, changed);
-    }
-    let t = judging::ignored(t, samples::with_count(changed, at));
-    if kind == WORDS {
-        return judging::ignored(t, changed);
-    }
-    judging::looked_at(t, changed, c.refused)
-}
-
-// at the oldest place and at the last of the window
-fn at_ends(m: Core, kind: u8, k: u32, t: Tally) -> Tally {
-    let s = m.setup;
-    let t = at_place(m, 0, case(kind, m, k), kind, t);
-    if s.window <= 1 {
-        return t;
-    }
-    at_place(m, s.window - 1, case(kind, m, k), kind, t)
-}
-
-pub fn tried(kind: u8, m: Core, t: Tally) -> Tally {
-    let last = cases(kind);
-    let mut t = t;
-    let mut k = 0u32;
-    while k < last {
-        t = at_ends(m, kind, k, t);
-        k += 1;
-    }
-    t
 }

@@ -3,52 +3,59 @@
 #![tactic(auto)]
 
 mod corners;
-mod damage;
 mod entry_damage;
 mod instruction_cases;
 mod judging;
+mod limits;
 mod number_damage;
 mod samples;
 mod setups;
 mod store_cases;
 mod table_damage;
 
-fn machine_numbers() {
-    corners::over(b"W", number_damage::WINDOW);
-    corners::over(b"N", number_damage::REGISTERS);
-    corners::over(b"program length", number_damage::PROGRAM);
-    corners::over(b"data length", number_damage::BYTES);
-    corners::over(b"count", number_damage::COUNT);
-    corners::over(b"head of registers", number_damage::REGISTER_HEAD);
-    corners::over(b"head of names", number_damage::NAME_HEAD);
-    corners::over(b"halt cause", number_damage::HALT);
-    corners::over(b"fetch and next address", number_damage::ADDRESSES);
+use corners::over;
+use std::io;
+
+fn numbers(rt: &impl Print) -> io::Result<()> {
+    over(rt, "undamaged", number_damage::none)?;
+    over(rt, "W", number_damage::windows)?;
+    over(rt, "N", number_damage::registers)?;
+    over(rt, "program length", number_damage::programs)?;
+    over(rt, "data length", number_damage::bytes)?;
+    over(rt, "count", number_damage::counts)?;
+    over(rt, "head of registers", number_damage::register_heads)?;
+    over(rt, "head of names", number_damage::name_heads)?;
+    over(rt, "halt cause", number_damage::halts)?;
+    over(rt, "fetch and next address", number_damage::addresses)
 }
 
-fn machine_tables() {
-    corners::over(b"links of registers", table_damage::REGISTER_LINKS);
-    corners::over(b"links of names", table_damage::NAME_LINKS);
-    corners::over(b"physical map", table_damage::PHYSICAL);
-    corners::over(b"names of the general map", table_damage::MAP_NAMES);
-    corners::over(b"registers of the general map", table_damage::MAP_REGISTERS);
-    corners::over(b"valid bits", table_damage::MAP_VALID);
-    corners::over(b"values", table_damage::VALUES);
+fn tables(rt: &impl Print) -> io::Result<()> {
+    over(rt, "links of registers", table_damage::register_links)?;
+    over(rt, "links of names", table_damage::name_links)?;
+    over(rt, "physical map", table_damage::physical)?;
+    over(rt, "names of the general map", table_damage::map_names)?;
+    over(
+        rt,
+        "registers of the general map",
+        table_damage::map_registers,
+    )?;
+    over(rt, "valid bits", table_damage::valid_bits)?;
+    over(rt, "values", table_damage::values)
 }
 
-fn machine_entries() {
-    corners::over(b"instructions", entry_damage::INSTRUCTIONS);
-    corners::over(b"no instruction", entry_damage::NO_INSTRUCTION);
-    corners::over(b"destination, name, previous", entry_damage::NUMBERS);
-    corners::over(b"operands", entry_damage::OPERANDS);
-    corners::over(b"causes", entry_damage::CAUSES);
-    corners::over(b"stores", entry_damage::STORES);
-    corners::over(b"addresses and values of an entry", entry_damage::WORDS);
+fn entries(rt: &impl Print) -> io::Result<()> {
+    over(rt, "instructions", entry_damage::instructions)?;
+    over(rt, "no instruction", entry_damage::no_instruction)?;
+    over(rt, "destination, name, previous", entry_damage::numbers)?;
+    over(rt, "operands", entry_damage::operands)?;
+    over(rt, "causes", entry_damage::causes)?;
+    over(rt, "stores", entry_damage::stores)?;
+    over(rt, "addresses and values of an entry", entry_damage::words)
 }
 
-fn main() {
-    setups::test();
-    corners::over(b"undamaged", number_damage::NOTHING);
-    machine_numbers();
-    machine_tables();
-    machine_entries();
+fn main(rt: HostRuntime) -> io::Result<()> {
+    setups::test(&rt)?;
+    numbers(&rt)?;
+    tables(&rt)?;
+    entries(&rt)
 }

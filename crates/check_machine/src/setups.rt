@@ -1,258 +1,138 @@
 // Set-ups over the corners of the four numbers.
 use crate::judging;
+use execution::Stop;
 use renaming::Core;
-use tables::{Entry, Operand, State};
+use std::io;
+use tables::{Entry, PLACES};
 use window::Machine;
 
-// by: how many should be refused by 1 to 4, and at 0 how many should be accepted
-#[derive(Clone, Copy)]
-struct Setups {
+const WINDOWS: [u32; 7] = [0, 1, 2, 63, 64, 65, 4_294_967_295];
+
+const REGISTERS: [u32; 8] = [0, 31, 32, 33, 94, 95, 96, 4_294_967_295];
+
+const PROGRAMS: [usize; 8] = [0, 3, 4, 6, 8, 16_380, 16_384, 16_388];
+
+const BYTES: [usize; 4] = [0, 1, 16_384, 16_385];
+
+// how many should be refused by 1 to 4, at 0 how many should be accepted, and how many did otherwise
+#[derive(Clone, Copy, Default)]
+struct Tally {
     by: [u64; 5],
     differ: u64,
 }
 
-fn window_at(k: u32) -> u32 {
-    match k {
-        0 => 0,
-        1 => 1,
-        2 => 2,
-        3 => 63,
-        4 => 64,
-        5 => 65,
-        _ => 4_294_967_295,
-    }
-}
-
-fn registers_at(k: u32) -> u32 {
-    match k {
-        0 => 0,
-        1 => 31,
-        2 => 32,
-        3 => 33,
-        4 => 94,
-        5 => 95,
-        6 => 96,
-        _ => 4_294_967_295,
-    }
-}
-
-fn program_at(k: u32) -> usize {
-    match k {
-        0 => 0,
-        1 => 3,
-        2 => 4,
-        3 => 6,
-        4 => 8,
-        5 => 16_380,
-        6 => 16_384,
-        _ => 16_388,
-    }
-}
-
-fn bytes_at(k: u32) -> usize {
-    match k {
-        0 => 0,
-        1 => 1,
-        2 => 16_384,
-        _ => 16_385,
-    }
-}
-
 // document 01: 1 W out of range; 2 N out of range; 3 program length; 4 data length
 fn expected(w: u32, n: u32, program: usize, bytes: usize) -> u8 {
-    if (w == 0) | (w > 64) {
-        return 1;
+    if w == 0 || w > 64 {
+        1
+    } else if n < 32 || n > 95 {
+        2
+    } else if program == 0 || program > 16_384 || program % 4 != 0 {
+        3
+    } else if bytes > 16_384 {
+        4
+    } else {
+        0
     }
-    if (n < 32) | (n > 95) {
-        return 2;
-    }
-    if (program == 0) | (program > 16_384) | (program % 4 != 0) {
-        return 3;
-    }
-    if bytes > 16_384 {
-        return 4;
-    }
-    0
-}
-
-fn is_zero(operand: Operand) -> bool {
-    match operand {
-        Operand::Zero => true,
-        Operand::Waiting(_) => false,
-        Operand::Ready(_, _) => false,
-    }
-}
-
-fn waits(state: State) -> bool {
-    match state {
-        State::Waits => true,
-        State::Issued => false,
-        State::Completed => false,
-    }
-}
-
-fn is_empty(e: Entry) -> bool {
-    let i = e.instruction;
-    let left = e.left;
-    let right = e.right;
-    let state = e.state;
-    let stop = e.stop;
-    (i.operation == 0)
-        & (i.rd == 0)
-        & (i.rs1 == 0)
-        & (i.rs2 == 0)
-        & (i.constant == 0)
-        & (e.address == 0)
-        & (e.predicted == 0)
-        & (e.first == 0)
-        & (e.second == 0)
-        & (e.result == 0)
-        & is_zero(left)
-        & is_zero(right)
-        & (e.destination == 0)
-        & (e.name == 0)
-        & (e.previous == 0)
-        & waits(state)
-        & (stop.cause == 0)
-}
-
-fn empty_at(m: Core, k: usize) -> bool {
-    if k < 64 {
-        let e = m.entries[k];
-        return is_empty(e);
-    }
-    true
 }
 
 // the number after k where a pool of 32 to last lies in rising order
 fn rising(k: usize, last: usize) -> usize {
-    if k < 32 {
-        return 0;
-    }
-    if k < last { k + 1 } else { 0 }
+    if 32 <= k && k < last { k + 1 } else { 0 }
 }
 
-// the tables of names and registers at k, N and the names reaching to these
-fn tables_at(m: Core, k: usize, last: usize, names: usize, own: usize) -> bool {
-    if k < 96 {
-        return (m.physical[k] as usize == own)
-            & (m.values[k] == 0)
-            & (m.registerlink[k] as usize == rising(k, last))
-            & (m.namelink[k] as usize == rising(k, names));
-    }
-    true
+// a pool with this head, 32 to last in rising order
+fn pool_rises(head: u8, link: &[u8; PLACES], first: u8, last: usize) -> bool {
+    head == first
+        && link
+            .iter()
+            .enumerate()
+            .all(|(k, next)| *next as usize == rising(k, last))
 }
 
-fn map_at(m: Core, k: usize, own: usize) -> bool {
-    if k < 32 {
-        return (m.mapname[k] as usize == own)
-            & (m.mapregister[k] as usize == own)
-            & (m.mapvalid[k] == (own != 0));
-    }
-    true
+// each of the first n numbers is its own index, and those after them are 0
+fn own(table: &[u8], n: usize) -> bool {
+    table.iter().enumerate().all(|(k, number)| *number as usize == if k < n { k } else { 0 })
 }
 
-// all tables at k: fresh, or of zeros
-fn place(m: Core, k: usize, w: u32, n: u32, fresh: bool) -> bool {
-    let own = if fresh & (k < 32) { k } else { 0 };
-    let last = if fresh { n as usize } else { 0 };
-    let names = if fresh & (w <= 64) {
-        31 + w as usize
-    } else {
-        0
-    };
-    empty_at(m, k) & map_at(m, k, own) & tables_at(m, k, last, names, own)
-}
-
-fn places(m: Core, w: u32, n: u32, fresh: bool) -> bool {
-    let mut right = true;
-    let mut k: usize = 0;
-    while k < 96 {
-        right = right & place(m, k, w, n, fresh);
-        k += 1;
-    }
-    right
+// the tables of a fresh machine where n is 32, of a machine of zeros where n is 0
+fn tables(m: &Core, n: usize, first: u8, registers: usize, names: usize) -> bool {
+    m.entries.iter().all(|e| *e == Entry::default())
+        && own(&m.map.names, n)
+        && own(&m.map.registers, n)
+        && m.map
+            .valid
+            .iter()
+            .enumerate()
+            .all(|(k, valid)| *valid == (1 <= k && k < n))
+        && own(&m.physical, n)
+        && m.values.iter().all(|value| *value == 0)
+        && pool_rises(
+            m.free_registers.head,
+            &m.free_registers.link,
+            first,
+            registers,
+        )
+        && pool_rises(m.free_names.head, &m.free_names.link, first, names)
 }
 
 // what stands in no table
-fn numbers(m: Core, w: u32, n: u32, program: usize, bytes: usize, head: u8) -> bool {
+fn numbers(m: &Core, w: u32, n: u32, program: usize, bytes: usize) -> bool {
     let s = m.setup;
-    let halt = m.halt;
-    (s.window as u32 == w)
-        & (s.registers as u32 == n)
-        & (s.program as usize == program)
-        & (s.bytes as usize == bytes)
-        & (m.count == 0)
-        & (m.registerhead == head)
-        & (m.namehead == head)
-        & (m.fetch == 0)
-        & (m.next == 0)
-        & (halt.cause == 0)
+    (u32::from(s.window), u32::from(s.registers)) == (w, n)
+        && (usize::from(s.program), usize::from(s.bytes)) == (program, bytes)
+        && m.count == 0
+        && m.fetch == 0
+        && m.next == 0
+        && m.halt == Stop::default()
 }
 
-// a fresh machine passes, and reports zeros
-fn reports_zeros(m: Core) -> bool {
-    let machine = Machine { core: m };
-    let report = machine.report();
-    let values = report.registers;
-    judging::passes(m) & vectors::same_registers(values, [0; 32])
+fn fresh(m: &Core, w: u32, n: u32, program: usize, bytes: usize) -> bool {
+    let machine = Machine { core: *m };
+    numbers(m, w, n, program, bytes)
+        && tables(m, 32, 32, n as usize, 31 + w as usize)
+        && judging::passes(m)
+        && machine.report().registers == [0; 32]
 }
 
 // whether set-up answers as expected, with a fresh machine or one of zeros, which 5 refuses
 fn right(w: u32, n: u32, program: usize, bytes: usize) -> bool {
     let number = expected(w, n, program, bytes);
     let answer = Machine::set_up(w, n, program, bytes);
-    let machine = answer.machine;
-    let m = machine.core;
-    if number != 0 {
-        return (answer.number == number)
-            & numbers(m, 0, 0, 0, 0, 0)
-            & places(m, w, n, false)
-            & judging::is_refused(m);
-    }
-    (answer.number == 0)
-        & numbers(m, w, n, program, bytes, 32)
-        & places(m, w, n, true)
-        & reports_zeros(m)
+    let m = answer.machine.core;
+    answer.number == number
+        && if number == 0 {
+            fresh(&m, w, n, program, bytes)
+        } else {
+            numbers(&m, 0, 0, 0, 0) && tables(&m, 0, 0, 0, 0) && judging::is_refused(&m)
+        }
 }
 
-fn next(s: Setups, k: u32) -> Setups {
-    let mut u = s;
-    let w = window_at(k % 7);
-    let n = registers_at(k / 7 % 8);
-    let p = program_at(k / 56 % 8);
-    let d = bytes_at(k / 448);
-    let at = expected(w, n, p, d) as usize;
-    if at < 5 {
-        u.by[at] = std::num::wrapping_add_u64(u.by[at], 1);
+fn every() -> Tally {
+    let mut t = Tally::default();
+    for w in WINDOWS {
+        for n in REGISTERS {
+            for program in PROGRAMS {
+                for bytes in BYTES {
+                    if let Some(count) = t.by.get_mut(expected(w, n, program, bytes) as usize) {
+                        *count = count.wrapping_add(1);
+                    }
+                    if !right(w, n, program, bytes) {
+                        t.differ = t.differ.wrapping_add(1);
+                    }
+                }
+            }
+        }
     }
-    if !right(w, n, p, d) {
-        u.differ = std::num::wrapping_add_u64(u.differ, 1);
-    }
-    u
+    t
 }
 
-fn every() -> Setups {
-    let mut s = Setups {
-        by: [0; 5],
-        differ: 0,
-    };
-    let mut k = 0u32;
-    while k < 1792 {
-        s = next(s, k);
-        k += 1;
+pub fn test(rt: &impl Print) -> io::Result<()> {
+    let t = every();
+    println!(rt; "set-ups 1792")?;
+    for number in 1..5 {
+        println!(rt; "refused by {number} {}", t.by[number])?;
     }
-    s
-}
-
-pub fn test() {
-    let s = every();
-    let by = s.by;
-    vectors::print(b"set-ups ", 1792);
-    vectors::print(b"refused by 1 ", by[1]);
-    vectors::print(b"refused by 2 ", by[2]);
-    vectors::print(b"refused by 3 ", by[3]);
-    vectors::print(b"refused by 4 ", by[4]);
-    vectors::print(b"accepted ", by[0]);
-    vectors::print(b"differ ", s.differ);
+    println!(rt; "accepted {}", t.by[0])?;
+    println!(rt; "differ {}", t.differ)
 }

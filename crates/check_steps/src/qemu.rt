@@ -1,194 +1,163 @@
 // Single steps as QEMU makes them. A record has eight words: word, address, a, b, next, what, where, value.
+use execution::Stop;
+use reference::Stepped;
+use reference::lengths::{LONGEST_DATA, LONGEST_PROGRAM};
+use std::alloc::{AllocError, Global};
+use std::rt::Files;
+use std::{array, io};
+use vectors::Tally;
 
-// `stops` counts the steps that stop, by cause; `more`: the file may hold a further record
+const STRIDE: u32 = 2_654_435_761;
+
+// What the step does besides going on to the next address: a register gets the value, or it stops by a cause, or the data
+// get the value, or nothing.
 #[derive(Clone, Copy)]
-pub struct Tally {
-    pub tested: u64,
-    pub differ: u64,
-    pub stops: [u64; 8],
-    pub more: bool,
+enum Effect {
+    Writes(usize),
+    Stops(u8),
+    Stores,
+    Nothing,
 }
 
-// what the record says of the step, and the state before it
+// What the record says of the step, and the state before it.
 #[derive(Clone, Copy)]
 struct Question {
     word: u32,
-    address: u32,
     registers: [u32; 32],
+    address: u32,
     next: u32,
-    what: u32,
+    effect: Effect,
     place: u32,
     value: u32,
 }
 
-const STRIDE: u32 = 2_654_435_761;
+// the record's number for it
+fn effect_of(what: u32) -> Effect {
+    match what {
+        1..=31 => Effect::Writes(what as usize),
+        33..=63 => Effect::Stops((what - 32) as u8),
+        64 => Effect::Stores,
+        _ => Effect::Nothing,
+    }
+}
 
 // register i holds i * STRIDE, then the word's two source fields name those that hold b and a
 fn registers(word: u32, a: u32, b: u32) -> [u32; 32] {
-    let mut values = multiples();
-    let second = (word / 0x10_0000 % 32) as usize;
-    let first = (word / 0x8000 % 32) as usize;
-    values[second] = b;
-    values[first] = a;
+    let mut values = array::from_fn(|i| (i as u32).wrapping_mul(STRIDE));
+    values[(word >> 20 & 31) as usize] = b;
+    values[(word >> 15 & 31) as usize] = a;
     values[0] = 0;
     values
-}
-
-fn multiples() -> [u32; 32] {
-    let mut values = [0u32; 32];
-    let mut multiple: u32 = 0;
-    let mut k = 0;
-    while k < 32 {
-        values[k] = multiple;
-        multiple = std::num::wrapping_add_u32(multiple, STRIDE);
-        k += 1;
-    }
-    values
-}
-
-fn highest_byte(word: u32) -> u8 {
-    (word / 0x100_0000) as u8
-}
-
-// byte i of the data is the highest byte of i * STRIDE
-fn fill(data: &mut [u8]) {
-    let mut multiple: u32 = 0;
-    let mut k = 0;
-    while k < data.len() {
-        data[k] = highest_byte(multiple);
-        multiple = std::num::wrapping_add_u32(multiple, STRIDE);
-        k += 1;
-    }
-}
-
-// the four bytes from an index on become the word's, unless they leave the slice
-fn put(bytes: &mut [u8], at: usize, word: u32) {
-    if bytes.len() < 4 {
-        return;
-    }
-    if bytes.len() - 4 < at {
-        return;
-    }
-    bytes[at] = (word % 0x100) as u8;
-    bytes[at + 1] = (word / 0x100 % 0x100) as u8;
-    bytes[at + 2] = (word / 0x1_0000 % 0x100) as u8;
-    bytes[at + 3] = highest_byte(word);
 }
 
 fn asked(record: &[u8; 32]) -> Question {
     let word = vectors::word(record, 0);
     Question {
         word,
-        address: vectors::word(record, 4),
         registers: registers(word, vectors::word(record, 8), vectors::word(record, 12)),
+        address: vectors::word(record, 4),
         next: vectors::word(record, 16),
-        what: vectors::word(record, 20),
+        effect: effect_of(vectors::word(record, 20)),
         place: vectors::word(record, 24),
         value: vectors::word(record, 28),
     }
 }
 
-// the cause of the stop that the record tells, 0 for none
-fn cause(what: u32) -> u32 {
-    if 32 < what && what < 64 {
-        return what - 32;
-    }
-    0
-}
-
-// the registers after the step
-fn changed(q: Question) -> [u32; 32] {
-    let mut values = q.registers;
-    if 0 < q.what && q.what < 32 {
-        let number = q.what as usize;
-        values[number] = q.value;
-    }
-    values
-}
-
-// makes the step and compares; `want` is what the data should be
-fn answered(q: Question, program: &[u8], data: &mut [u8], want: &[u8]) -> bool {
-    let before = q.registers;
-    let after = reference::step(program, data, before, q.address);
-    let values = after.registers;
-    let stop = after.stop;
-    vectors::same_registers(values, changed(q))
-        & (after.address == q.next)
-        & (stop.cause as u32 == cause(q.what))
-        & (after.refusal == 0)
-        & check::same(data, want)
-}
-
-// the data word that the record tells, if it tells one
-fn shown(q: Question, kept: u32) -> u32 {
-    if q.what == 64 {
-        return q.value;
-    }
-    kept
-}
-
-// the data as they were before a step that was right, or anew
-fn restore(data: &mut [u8], at: usize, kept: u32, right: bool) {
-    put(data, at, kept);
-    if !right {
-        fill(data);
-    }
-}
-
-// one vector; `data` and `want` are left as they came
-fn one(q: Question, program: &mut [u8], data: &mut [u8], want: &mut [u8]) -> bool {
-    let at = q.place as usize;
-    let kept = vectors::word(want, at);
-    put(program, q.address as usize, q.word);
-    put(want, at, shown(q, kept));
-    let right = answered(q, program, data, want);
-    put(want, at, kept);
-    restore(data, at, kept, right);
-    right
-}
-
-fn told(t: Tally, cause: u32, right: bool) -> Tally {
-    let mut u = t;
-    u.tested = std::num::wrapping_add_u64(u.tested, 1);
-    if !right {
-        u.differ = std::num::wrapping_add_u64(u.differ, 1);
-    }
-    if 0 < cause && cause < 8 {
-        let at = cause as usize;
-        u.stops[at] = std::num::wrapping_add_u64(u.stops[at], 1);
-    }
-    u
-}
-
-fn next(fd: i32, t: Tally, program: &mut [u8], data: &mut [u8], want: &mut [u8]) -> Tally {
-    let mut record = [0u8; 32];
-    if io::read_full(fd, &mut record) != 32 {
-        let mut u = t;
-        u.more = false;
-        return u;
-    }
-    let q = asked(&record);
-    let right = one(q, program, data, want);
-    told(t, cause(q.what), right)
-}
-
-// All records. The turns are counted down from a number that no file uses up, so that the loop ends.
-pub fn all(fd: i32) -> Tally {
-    let mut program = [0u8; 16384];
-    let mut data = [0u8; 16384];
-    let mut want = [0u8; 16384];
-    fill(&mut data);
-    fill(&mut want);
-    let mut t = Tally {
-        tested: 0,
-        differ: 0,
-        stops: [0; 8],
-        more: true,
+// the state after the step
+fn told(q: Question) -> Stepped {
+    let registers = q.registers;
+    let mut after = Stepped {
+        registers,
+        address: q.next,
+        stop: Stop { cause: 0 },
+        refusal: None,
     };
-    let mut turns = u64::MAX;
-    while turns > 0 && t.more {
-        t = next(fd, t, &mut program, &mut data, &mut want);
-        turns -= 1;
+    match q.effect {
+        Effect::Writes(register) => {
+            if let Some(value) = after.registers.get_mut(register) {
+                *value = q.value;
+            }
+        }
+        Effect::Stops(cause) => after.stop.cause = cause,
+        _ => (),
     }
-    t
+    after
+}
+
+// the four bytes from an index on become the word's, unless they leave the slice
+fn put(bytes: &mut [u8], at: usize, word: u32) {
+    let Some(rest) = bytes.get_mut(at..) else {
+        return;
+    };
+    if let Some(place) = rest.first_chunk_mut() {
+        *place = word.to_le_bytes();
+    }
+}
+
+// Program, data, and what the data should be after a step.
+#[derive(Drop)]
+struct Memories {
+    program: Vec<u8>,
+    data: Vec<u8>,
+    want: Vec<u8>,
+}
+
+// byte i is the highest byte of i * STRIDE
+fn fill(data: &mut [u8]) {
+    for (i, byte) in (0..).zip(data.iter_mut()) {
+        *byte = STRIDE.wrapping_mul(i).to_be_bytes()[0];
+    }
+}
+
+impl Memories {
+    fn new(alloc: Global) -> Result<Self, AllocError> {
+        let mut data = vec![in alloc; 0; LONGEST_DATA]?;
+        fill(&mut data);
+        Ok(Self {
+            program: vec![in alloc; 0; LONGEST_PROGRAM]?,
+            want: data.clone()?,
+            data,
+        })
+    }
+
+    // Makes the step and compares; the data are left as they came. By `check::same`: with `==` of slices, which calls the
+    // bytes' own `==`, the 11,000 steps do not end in the time that a trial has.
+    fn is_right(&mut self, q: Question) -> bool {
+        let place = q.place as usize;
+        let kept = vectors::word(&self.want, place);
+        put(&mut self.program, q.address as usize, q.word);
+        if matches!(q.effect, Effect::Stores) {
+            put(&mut self.want, place, q.value);
+        }
+        let after = reference::step(&self.program, &mut self.data, q.registers, q.address);
+        let right = after == told(q) && check::same(&self.data, &self.want);
+        put(&mut self.want, place, kept);
+        put(&mut self.data, place, kept);
+        if !right {
+            fill(&mut self.data);
+        }
+        right
+    }
+}
+
+pub fn test<R: Files + Print + Eprint + Alloc<A = Global>>(rt: &R) -> io::Result<()> {
+    let Some(bytes) = vectors::contents(rt, "steps.bin")? else {
+        return Ok(());
+    };
+    let (records, _) = bytes.as_chunks();
+    let mut memories = Memories::new(rt.alloc())?;
+    // the steps that stop, by cause
+    let mut stops = [0; 8];
+    let tally = Tally::of(records, |record| {
+        let q = asked(record);
+        if let Effect::Stops(cause) = q.effect {
+            vectors::count(&mut stops, cause as usize);
+        }
+        memories.is_right(q)
+    });
+    tally.print(rt, "steps")?;
+    for (cause, count) in stops.iter().enumerate().skip(1) {
+        println!(rt; "cause {cause} {count}")?;
+    }
+    Ok(())
 }

@@ -1,39 +1,26 @@
 // words.bin: records of word (4 bytes), operation, rd, rs1, rs2 (1 each), constant (4).
-use crate::number::join;
-use crate::tally::Tally;
-use crate::{LAST_OPERATION, counts};
-use isa::{Instruction, Reading};
-use std::fs::File;
-use std::os::fd::AsRawFd;
+use crate::operations;
+use crate::operations::{LAST_OPERATION, NAMES};
+use isa::Instruction;
+use std::io;
 use std::rt::Files;
+use vectors::Tally;
 
-// counts: how many words of each operation were tested, illegal ones at 0
-#[derive(Clone, Copy)]
-struct Words {
-    tally: Tally,
-    counts: [u32; 49],
-}
+// one count for each operation, and one at 0 for illegal words
+const COUNTS: usize = LAST_OPERATION + 1;
 
-// whether the word is read as some instruction
-pub fn legal(word: u32) -> bool {
-    let reading = isa::read(word);
-    let Reading::Legal(_) = reading else {
-        return false;
-    };
-    true
-}
-
-// whether the word is read as this instruction
-fn reads(word: u32, i: Instruction) -> bool {
-    let reading = isa::read(word);
-    let Reading::Legal(r) = reading else {
-        return false;
-    };
-    (r.operation == i.operation)
-        & (r.rd == i.rd)
-        & (r.rs1 == i.rs1)
-        & (r.rs2 == i.rs2)
-        & (r.constant == i.constant)
+// the instruction that the record tells, none for an illegal word
+fn instruction(record: &[u8; 12]) -> Option<Instruction> {
+    if !operations::is_known(record[4] as u32) {
+        return None;
+    }
+    Some(Instruction {
+        operation: record[4],
+        rd: record[5],
+        rs1: record[6],
+        rs2: record[7],
+        constant: vectors::word(record, 8).cast_signed(),
+    })
 }
 
 // whether this instruction is written as the word
@@ -45,80 +32,33 @@ fn writes(word: u32, i: Instruction) -> bool {
         i.rs2 as u32,
         i.constant,
     );
-    (made.refusal == 0) & (made.word == word)
+    made == Ok(word)
 }
 
-// the record's operation, 0 for an illegal word
-fn operation(b: [u8; 12]) -> u8 {
-    if b[4] <= LAST_OPERATION { b[4] } else { 0 }
+// whether the word is read as what the record tells, and that written as the word
+fn holds(word: u32, told: Option<Instruction>) -> bool {
+    isa::read(word) == told && told.is_none_or(|i| writes(word, i))
 }
 
-fn holds(b: [u8; 12]) -> bool {
-    let word = join(b[0], b[1], b[2], b[3]);
-    let operation = operation(b);
-    if operation == 0 {
-        return !legal(word);
+fn print_counts(rt: &impl Print, counts: &[u64; COUNTS]) -> io::Result<()> {
+    for (name, count) in NAMES.iter().zip(&counts[1..]) {
+        println!(rt; "{name} {count}")?;
     }
-    let constant = word::to_signed(join(b[8], b[9], b[10], b[11]));
-    let i = Instruction {
-        operation,
-        rd: b[5],
-        rs1: b[6],
-        rs2: b[7],
-        constant,
+    println!(rt; "illegal {}", counts[0])
+}
+
+pub fn test<R: Files + Print + Eprint + Alloc>(rt: &R) -> io::Result<()> {
+    let Some(bytes) = vectors::contents(rt, "words.bin")? else {
+        return Ok(());
     };
-    reads(word, i) & writes(word, i)
-}
-
-fn counted(counts: [u32; 49], operation: u8) -> [u32; 49] {
-    let mut counts = counts;
-    let at = operation as usize;
-    if at < 49 {
-        counts[at] = std::num::wrapping_add_u32(counts[at], 1);
-    }
-    counts
-}
-
-fn next(fd: i32, w: Words) -> Words {
-    let tally = w.tally;
-    let counts = w.counts;
-    let mut record = [0u8; 12];
-    if io::read_full(fd, &mut record) != 12 {
-        return Words {
-            tally: tally.ended(),
-            counts,
-        };
-    }
-    Words {
-        tally: tally.told(holds(record)),
-        counts: counted(counts, operation(record)),
-    }
-}
-
-// All records. The turns are counted down from a number that no file uses up, so that the loop ends.
-fn every(fd: i32) -> Words {
-    let mut w = Words {
-        tally: Tally::new(),
-        counts: [0u32; 49],
-    };
-    let mut turns = u64::MAX;
-    while turns > 0 && w.tally.more {
-        w = next(fd, w);
-        turns -= 1;
-    }
-    w
-}
-
-pub fn test(rt: &(impl Files<File = File> + Eprint)) -> std::io::Result<()> {
-    let file = match File::open(rt, "words.bin") {
-        Ok(file) => file,
-        Err(e) => return eprintln!(rt; "words.bin: {e}"),
-    };
-    let w = every(file.as_raw_fd());
-    drop(file);
-    let counts = w.counts;
-    let tally = w.tally;
-    counts::print(counts);
-    tally.print(b"words ");
-    Ok(())
+    let (records, _) = bytes.as_chunks();
+    let mut counts = [0; COUNTS];
+    let tally = Tally::of(records, |record| {
+        let told = instruction(record);
+        let number = told.unwrap_or_default().operation;
+        vectors::count(&mut counts, number as usize);
+        holds(vectors::word(record, 0), told)
+    });
+    print_counts(rt, &counts)?;
+    tally.print_with_first(rt, "words")
 }

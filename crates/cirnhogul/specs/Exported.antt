@@ -1,6 +1,6 @@
 -- What C gets: plain numbers.
 use Rattle.std.specs.Prelude.{ℕ, ◌+◌, ◌*◌, ◌^◌, List}
-use Rattle.isa.specs.declared.Encoded.{Encoded}
+use Rattle.isa.specs.Encodes.{Encoded}
 use Rattle.bench.specs.Replay.{Replay}
 
 -- 0 or the refusal, and the lent bytes

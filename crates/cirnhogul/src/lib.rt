@@ -17,8 +17,10 @@ pub extern "C" fn cirnhogul_replay(
 ) -> u32
     ensures { Exported.numbered (replay_of program.now «data».old schedule.now res.old) ≡ record { number = result; memory = «data».new; result = res.new } }
 {
-    let found = bench::replay(program, data, schedule, res);
-    found.number
+    match bench::replay(program, data, schedule, res) {
+        Ok(_) => 0,
+        Err(refusal) => u32::from(u8::from(refusal)),
+    }
 }
 
 // The word of these fields: refusal × 2^32 + word.
@@ -32,6 +34,8 @@ pub extern "C" fn cirnhogul_encode(
 ) -> u64
     ensures { result ≡ Exported.packed (encoded_of (instruction operation rd rs1 rs2 constant)) }
 {
-    let encoded = isa::encode(operation, rd, rs1, rs2, constant);
-    encoded.refusal as u64 * 0x1_0000_0000 + encoded.word as u64
+    match isa::encode(operation, rd, rs1, rs2, constant) {
+        Ok(word) => u64::from(word),
+        Err(refusal) => u64::from(u8::from(refusal)) * 0x1_0000_0000,
+    }
 }

@@ -12,7 +12,7 @@ use Rattle.renaming.specs.Setters.{with_count, with_entries, with_next, with_hal
 use Rattle.renaming.specs.Changes.{entry_at, free_register, free_name}
 use Rattle.renaming.specs.Drop.{drop_to}
 use Rattle.renaming.specs.declared.Core.{Core}
-use Rattle.renaming.specs.declared.Answer.{Answer}
+use Rattle.renaming.specs.Answer.{Answer}
 
 -- 10 halted; 12 empty window; 13 entry not completed
 unfoldable pub commit_refusal : Core → ℕ

@@ -1,101 +1,88 @@
 // Commit: the oldest entry leaves the window.
 #![tactic(auto)]
 
-ghost use Rattle.std.specs.Prelude.{◌≡◌, true, ◌≤◌, ◌<◌};
-ghost use Rattle.renaming.specs.Range.{machine_in_range};
+ghost use Rattle.std.specs.Prelude.{◌≡◌, ◌≤◌, ◌<◌, OnOk};
+ghost use Rattle.refusals.specs.Numbers.{number_of};
+ghost use Rattle.renaming.specs.Answer.{answer};
 ghost use Rattle.renaming.specs.Setters.{with_entries};
 ghost use Rattle.committing.specs.Commit as Commit;
 ghost use Rattle.ranges.specs.Sizes.{most_entries};
 
 use execution::Stop;
-use renaming::{Answer, Core};
-use tables::{entries, free_list, maps};
+use refusals::Refusal;
+use renaming::Core;
+use tables::{Entry, State, table};
 
-fn commit_refusal(core: Core) -> u8
-    ensures { result ≡ Commit.commit_refusal core }
+// 10, 12 and 13. Issue, complete and commit begin alike: one function over the state would be no plainer, since each has
+// its own list.
+#[tactic(auto, unfolding(crate::specs::Commit::commit_refusal, reference::specs::Step::first))]
+fn check(core: &Core) -> Result<(), Refusal>
+    ensures number { number_of result ≡ Commit.commit_refusal core.now }
+    ensures some { OnOk result (0 < core.now.count) }
 {
-    let halt = core.halt;
-    if halt.cause != 0 {
-        return 10;
+    if core.halt.cause != 0 {
+        return Err(Refusal::Halted);
     }
     if core.count == 0 {
-        return 12;
+        return Err(Refusal::NoEntry);
     }
-    let e = core.entries[0];
-    if !entries::is_completed(e) {
-        return 13;
+    if core.entries[0].state != State::Completed {
+        return Err(Refusal::WrongState);
     }
-    0
+    Ok(())
 }
 
 // all entries one place down
-fn moved_down(mut core: Core) -> Core
-    requires { (0 < core.count) × (core.count ≤ most_entries) }
-    ensures { result ≡ with_entries (Commit.move_down core.count core.entries) core }
+fn move_down(core: &mut Core)
+    requires some { 0 < core.old.count }
+    requires few { core.old.count ≤ most_entries }
+    ensures { core.new ≡ with_entries (Commit.move_down core.old.count core.old.entries) core.old }
 {
-    let last = core.count as usize - 1;
-    let mut k: usize = 0;
-    while k < last {
-        let e = core.entries[k + 1];
-        core.entries[k] = e;
-        k += 1;
-    }
-    let empty = entries::empty();
-    core.entries[last] = empty;
-    core
+    let count = core.count as usize;
+    core.entries.copy_within(1..count, 0);
+    core.entries[count - 1] = Entry::default();
 }
 
 // the oldest entry leaves: the previous name and its register are free
-fn retired(mut core: Core) -> Core
-    requires { (0 < core.count) × (core.count ≤ most_entries) }
-    ensures { result ≡ Commit.retired core }
+#[tactic(auto, unfolding(crate::specs::Commit::retired))]
+fn retire(core: &mut Core)
+    requires some { 0 < core.old.count }
+    requires few { core.old.count ≤ most_entries }
+    ensures { core.new ≡ Commit.retired core.old }
 {
     let e = core.entries[0];
-    let register = maps::look_up(&core.physical, e.previous);
-    let free_register = core.registerhead;
-    let register_head = free_list::free(&mut core.registerlink, free_register, register);
-    core.registerhead = register_head;
-    maps::store_under(&mut core.physical, e.previous, 0);
-    let free_name = core.namehead;
-    let name_head = free_list::free(&mut core.namelink, free_name, e.previous);
-    core.namehead = name_head;
+    move_down(core);
+    core.count -= 1;
+    let register = table::look_under(0, &core.physical, e.previous);
+    core.free_registers.free(register);
+    core.free_names.free(e.previous);
+    table::store_under(&mut core.physical, e.previous, 0);
     core.next = e.predicted;
-    let mut left = moved_down(core);
-    left.count -= 1;
-    left
 }
 
 // every entry leaves, and the machine halts
-fn stopped(core: Core, stop: Stop) -> Core
-    requires { core.count ≤ most_entries }
-    ensures { result ≡ Commit.stopped_with stop core }
+#[tactic(auto, unfolding(crate::specs::Commit::halted_by))]
+fn stop_with(core: &mut Core, stop: Stop)
+    requires { core.old.count ≤ most_entries }
+    ensures { core.new ≡ Commit.stopped_with stop core.old }
 {
-    let mut emptied = core.drop_to(0);
-    emptied.halt = stop;
-    emptied
+    core.drop_to(0);
+    core.halt = stop;
 }
 
 // Commit, where 5 and 6 do not apply. Inner: `window` uses it.
-pub fn commit_within(core: Core, data: &mut [u8]) -> Answer
-    requires { machine_in_range core ≡ true }
-    ensures { Commit.commit_within «data».old core ≡ record { answer = result; memory = «data».new } }
+#[tactic(auto, unfolding(crate::specs::Commit::commit_within))]
+pub fn commit_within(core: &mut Core, data: &mut [u8]) -> Result<(), Refusal>
+    requires { core.old.count ≤ most_entries }
+    ensures { Commit.commit_within «data».old core.old ≡ record { answer = answer core.new result; memory = «data».new } }
 {
-    let number = commit_refusal(core);
-    if number != 0 {
-        return Answer { core, number };
-    }
+    check(core)?;
     let e = core.entries[0];
-    let stop = e.stop;
-    if stop.cause != 0 {
-        return Answer {
-            core: stopped(core, stop),
-            number: 0,
-        };
+    if e.stop.cause != 0 {
+        stop_with(core, e.stop);
+    } else {
+        execution::store(e.instruction, data, e.first, e.second);
+        retire(core);
     }
-    let i = e.instruction;
-    execution::store(i, data, e.first, e.second);
-    Answer {
-        core: retired(core),
-        number: 0,
-    }
+    Ok(())
 }

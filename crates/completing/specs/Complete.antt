@@ -12,7 +12,7 @@ use Rattle.renaming.specs.Setters.{with_values, with_fetch}
 use Rattle.renaming.specs.Changes.{entry_at, place, change_all, take_register, maps_learn}
 use Rattle.renaming.specs.Drop.{drop_to}
 use Rattle.renaming.specs.declared.Core.{Core}
-use Rattle.renaming.specs.declared.Answer.{Answer}
+use Rattle.renaming.specs.Answer.{Answer}
 use Rattle.stealing.specs.Steal.{victim_of, no_victim, robbed}
 
 -- "The result … and actual next address are found from the values read."
@@ -22,13 +22,16 @@ outcome_of bytes e = executed bytes e.instruction e.address e.first e.second
 abbrev pub outcome_at : Core → ℕ → Outcome
 outcome_at m position = outcome_of m.setup.bytes (entry_at m position)
 
+abbrev pub has_destination : Core → ℕ → Bool
+has_destination m position = not (eqb (entry_at m position).destination 0)
+
 -- "Otherwise a destination takes a free register."
 abbrev pub needs_register : Core → ℕ → Bool
 needs_register m position = not (eqb (entry_at m position).destination 0) && eqb (outcome_at m position).stop.cause 0
 
 -- "If none is free"
 abbrev pub none_free : Core → Bool
-none_free m = eqb m.registerhead 0
+none_free m = eqb m.free_registers.head 0
 
 -- 10 halted; 12 no entry there; 13 entry not issued; 16 no register free and no younger entry holds one, "only for a destination without a cause"
 unfoldable pub complete_refusal : ℕ → Core → ℕ
@@ -40,9 +43,17 @@ complete_refusal position m =
     ∷ when (needs_register m position && none_free m && no_victim m position) 16
     ∷ [])
 
+-- 10, 12 and 13, which need no outcome
+unfoldable pub entry_refusal : ℕ → Core → ℕ
+entry_refusal position m = first (when (halted m) 10 ∷ when (no_entry m position) 12 ∷ when (not (is_issued (entry_at m position).state)) 13 ∷ [])
+
+-- 16, for an entry without a cause
+abbrev pub register_refusal : ℕ → Core → ℕ
+register_refusal position m = when (has_destination m position && none_free m && no_victim m position) 16
+
 -- the machine and the register with which an entry goes on: the head of the pool, or the victim's
 abbrev pub register_for : Core → ℕ → ℕ
-register_for m position = choose (none_free m) (held m.physical (entry_at m (victim_of m position))) m.registerhead
+register_for m position = choose (none_free m) (held m.physical (entry_at m (victim_of m position))) m.free_registers.head
 
 abbrev pub supplied_for : Core → ℕ → Core
 supplied_for m position = choose (none_free m) (robbed (victim_of m position) m) m

@@ -1,170 +1,144 @@
 // Complete: an entry gets its result and a register, free or stolen.
 #![tactic(auto)]
 
-ghost use Rattle.std.specs.Prelude.{◌≡◌, true, ◌≤◌, ◌<◌};
-ghost use Rattle.isa.specs.Listing.{last};
-ghost use Rattle.renaming.specs.Range.{machine_in_range};
-ghost use Rattle.renaming.specs.Changes.{change_all};
+ghost use Rattle.std.specs.Prelude.{◌≡◌, true, false, not, ◌&&◌, ◌≤◌, ◌<◌, IfOk, IfErr, OnOk};
+ghost use Rattle.refusals.specs.Numbers.{number, number_of};
+ghost use Rattle.renaming.specs.Answer.{answer};
+ghost use Rattle.renaming.specs.Changes.{entry_at};
 ghost use Rattle.completing.specs.Complete as Complete;
-ghost use Rattle.tables.specs.Entry.{wake_entry};
+ghost use Rattle.completing.specs.Complete.{needs_register, none_free};
+ghost use Rattle.stealing.specs.Steal.{no_victim};
 ghost use Rattle.ranges.specs.Sizes.{most_entries};
 
 use execution::Outcome;
-use renaming::{Answer, Core, Setup};
-use tables::{Entry, entries, free_list, maps};
+use refusals::Refusal;
+use renaming::Core;
+use renaming::changing::Wake;
+use tables::{State, table};
 
-// operands on this name are ready with this register
-fn wake_all(mut core: Core, name: u8, register: u8) -> Core
-    requires { core.count ≤ most_entries }
-    ensures { result ≡ change_all (wake_entry name register) core }
+// 10, 12 and 13, which need no outcome. Issue, complete and commit begin alike: one function over the state would be no
+// plainer, since each has its own list.
+#[tactic(auto, unfolding(crate::specs::Complete::entry_refusal, reference::specs::Step::first))]
+fn check(core: &Core, position: usize) -> Result<(), Refusal>
+    requires { core.now.count ≤ most_entries }
+    ensures number { number_of result ≡ Complete.entry_refusal position core.now }
+    ensures inside { OnOk result (position < core.now.count) }
 {
-    let count = core.count as usize;
-    let mut k: usize = 0;
-    while k < count {
-        let e = core.entries[k];
-        let woken = entries::wake(e, name, register);
-        core.entries[k] = woken;
-        k += 1;
-    }
-    core
-}
-
-// what the values read come to. Inner: this crate and replay's loop call it.
-pub fn outcome(s: Setup, e: Entry) -> Outcome
-    requires { e.instruction.operation ≤ last }
-    ensures { result ≡ Complete.outcome_of s.bytes e }
-{
-    let i = e.instruction;
-    execution::execute(s.bytes as usize, i, e.address, e.first, e.second)
-}
-
-fn outcome_at(core: Core, position: usize) -> Outcome
-    requires { (machine_in_range core ≡ true) × (position < core.count) }
-    ensures { result ≡ Complete.outcome_at core position }
-{
-    let s = core.setup;
-    let e = core.entries[position];
-    outcome(s, e)
-}
-
-fn complete_refusal(core: Core, position: usize) -> u8
-    requires { machine_in_range core ≡ true }
-    ensures { result ≡ Complete.complete_refusal position core }
-{
-    let halt = core.halt;
-    if halt.cause != 0 {
-        return 10;
+    if core.halt.cause != 0 {
+        return Err(Refusal::Halted);
     }
     if core.count as usize <= position {
-        return 12;
+        return Err(Refusal::NoEntry);
     }
-    let e = core.entries[position];
-    if !entries::is_issued(e) {
-        return 13;
+    if core.entries[position].state != State::Issued {
+        return Err(Refusal::WrongState);
     }
-    let outcome = outcome_at(core, position);
-    let stop = outcome.stop;
-    let supplied = (e.destination == 0) | (stop.cause != 0) | (core.registerhead != 0);
-    if supplied {
-        return 0;
+    Ok(())
+}
+
+// what the values read come to
+fn outcome_at(core: &Core, position: usize) -> Outcome
+    requires inside { position < core.now.count }
+    requires few { core.now.count ≤ most_entries }
+    ensures { result ≡ Complete.outcome_at core.now position }
+{
+    let e = &core.entries[position];
+    execution::execute(
+        core.setup.bytes as usize,
+        e.instruction,
+        e.address,
+        e.first,
+        e.second,
+    )
+}
+
+// the free register with which an entry goes on, or the victim's, which is robbed
+#[tactic(auto, using(stealing::proofs::StealLaws::victim_within, stealing::proofs::StealLaws::robbed_count))]
+fn supply(core: &mut Core, position: usize) -> Result<u8, Refusal>
+    requires inside { position < core.old.count }
+    requires few { core.old.count ≤ most_entries }
+    ensures many { core.new.count ≡ core.old.count }
+    ensures supplied { IfOk result (λ register. (none_free core.old && no_victim core.old position ≡ false) × (register ≡ Complete.register_for core.old position) × (core.new ≡ Complete.supplied_for core.old position)) }
+    ensures refused { IfErr result (λ refusal. (number refusal ≡ 16) × (none_free core.old && no_victim core.old position ≡ true) × (core.new ≡ core.old)) }
+{
+    if core.free_registers.head != 0 {
+        return Ok(core.free_registers.head);
     }
-    if stealing::victim(core, position) == position {
-        return 16;
+    let holder = stealing::victim(core, position);
+    if holder == position {
+        return Err(Refusal::NoRegister);
     }
-    0
+    let register = core.entries[holder].held(&core.physical);
+    stealing::rob(core, holder);
+    Ok(register)
 }
 
 // the entry is completed with a register, which gets the result
-fn learned(mut core: Core, position: usize, register: u8, res: u32) -> Core
-    requires { (position < core.count) × (core.count ≤ most_entries) }
-    ensures { result ≡ Complete.learned position register res core }
+#[tactic(auto, unfolding(crate::specs::Complete::learned))]
+fn learn(core: &mut Core, position: usize, register: u8, value: u32)
+    requires inside { position < core.old.count }
+    requires few { core.old.count ≤ most_entries }
+    ensures { core.new ≡ Complete.learned position register value core.old }
 {
     let e = core.entries[position];
-    let done = entries::completed(e, res);
-    core.entries[position] = done;
-    let shown = maps::mapped(&core.mapname, e.destination);
-    maps::map_where(
-        &mut core.mapregister,
-        shown == e.name,
-        e.destination,
+    core.entries[position].complete(value);
+    core.free_registers.take();
+    table::store_under(&mut core.values, register, value);
+    table::store_under(&mut core.physical, e.name, register);
+    core.map.learn(e.destination, e.name, register, true);
+    core.change_all(&Wake {
+        name: e.name,
         register,
-    );
-    maps::valid_where(&mut core.mapvalid, shown == e.name, e.destination, true);
-    maps::store_under(&mut core.physical, e.name, register);
-    maps::store_value(&mut core.values, register, res);
-    let head = core.registerhead;
-    let following = free_list::take(&mut core.registerlink, head);
-    core.registerhead = following;
-    wake_all(core, e.name, register)
+    });
 }
 
-// a destination gets a free register, or the victim's
-fn registered(mut core: Core, position: usize, res: u32) -> Core
-    requires { (position < core.count) × (core.count ≤ most_entries) }
-    ensures { result ≡ Complete.registered position res core }
+// A destination gets a register for the result; Ok(true) where it was stolen.
+#[tactic(auto, using(crate::proofs::CompleteLaws::learned_count))]
+fn give(core: &mut Core, position: usize, value: u32) -> Result<bool, Refusal>
+    requires inside { position < core.old.count }
+    requires few { core.old.count ≤ most_entries }
+    ensures many { core.new.count ≡ core.old.count }
+    ensures given { IfOk result (λ stole. (Complete.register_refusal position core.old ≡ 0) × (stole ≡ (Complete.has_destination core.old position && none_free core.old)) × (core.new ≡ Complete.registered position value core.old)) }
+    ensures refused { IfErr result (λ refusal. (number refusal ≡ Complete.register_refusal position core.old) × (core.new ≡ core.old)) }
 {
-    let e = core.entries[position];
-    if e.destination == 0 {
-        let done = entries::completed(e, 0);
-        core.entries[position] = done;
-        return core;
+    if core.entries[position].destination == 0 {
+        core.entries[position].complete(0);
+        return Ok(false);
     }
-    let head = core.registerhead;
-    if head != 0 {
-        return learned(core, position, head, res);
-    }
-    let holder = stealing::victim(core, position);
-    let owner = core.entries[holder];
-    let register = entries::held(&core.physical, owner);
-    let supplied = stealing::robbed(core, holder);
-    learned(supplied, position, register, res)
+    let stole = core.free_registers.head == 0;
+    let register = supply(core, position)?;
+    learn(core, position, register, value);
+    Ok(stole)
 }
 
 // where the prediction was wrong, all younger entries are dropped and fetch goes to the actual next address
-fn redirected(core: Core, position: usize, next: u32) -> Core
-    requires { (position < core.count) × (core.count ≤ most_entries) }
-    ensures { result ≡ Complete.redirected position next core }
+#[tactic(auto, unfolding(crate::specs::Complete::redirected, crate::specs::Complete::refetched))]
+fn redirect(core: &mut Core, position: usize, next: u32)
+    requires inside { position < core.old.count }
+    requires few { core.old.count ≤ most_entries }
+    ensures { core.new ≡ Complete.redirected position next core.old }
 {
-    let e = core.entries[position];
-    if next == e.predicted {
-        return core;
+    if next == core.entries[position].predicted {
+        return;
     }
-    let mut kept = core.drop_to((position + 1) as u8);
-    let left = kept.entries[position];
-    let mended = entries::predicted(left, next);
-    kept.entries[position] = mended;
-    kept.fetch = next;
-    kept
+    core.drop_to((position + 1) as u8);
+    core.entries[position].predicted = next;
+    core.fetch = next;
 }
 
-fn completed(mut core: Core, position: usize) -> Core
-    requires { (machine_in_range core ≡ true) × (position < core.count) }
-    ensures { result ≡ Complete.completed position core }
+// Complete, where 5 and 6 do not apply; Ok(true) where a register was stolen. Inner: `window` uses it.
+pub fn complete_within(core: &mut Core, position: usize) -> Result<bool, Refusal>
+    requires { core.old.count ≤ most_entries }
+    ensures answer { answer core.new result ≡ Complete.complete_within position core.old }
+    ensures stole { IfOk result (λ stole. stole ≡ (needs_register core.old position && none_free core.old)) }
 {
+    check(core, position)?;
     let outcome = outcome_at(core, position);
-    let stop = outcome.stop;
-    if stop.cause != 0 {
-        let e = core.entries[position];
-        let ended = entries::stopped(e, stop);
-        core.entries[position] = ended;
-        return core;
+    if outcome.stop.cause != 0 {
+        core.entries[position].end(outcome.stop);
+        return Ok(false);
     }
-    let next = registered(core, position, outcome.result);
-    redirected(next, position, outcome.next)
-}
-
-// Complete, where 5 and 6 do not apply. Inner: `window` uses it.
-pub fn complete_within(core: Core, position: usize) -> Answer
-    requires { machine_in_range core ≡ true }
-    ensures { result ≡ Complete.complete_within position core }
-{
-    let number = complete_refusal(core, position);
-    if number != 0 {
-        return Answer { core, number };
-    }
-    let next = completed(core, position);
-    Answer {
-        core: next,
-        number: 0,
-    }
+    let stole = give(core, position, outcome.result)?;
+    redirect(core, position, outcome.next);
+    Ok(stole)
 }

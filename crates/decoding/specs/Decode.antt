@@ -18,7 +18,7 @@ use Rattle.renaming.specs.Setters.{with_count, with_free_names, with_fetch}
 use Rattle.renaming.specs.Changes.{place, map_to}
 use Rattle.renaming.specs.Call.{halted, lent_refusal, in_turn, answered}
 use Rattle.renaming.specs.declared.Core.{Core}
-use Rattle.renaming.specs.declared.Answer.{Answer}
+use Rattle.renaming.specs.Answer.{Answer}
 
 -- 10 halted; 11 window full
 unfoldable pub decode_refusal : Core → ℕ
@@ -49,11 +49,11 @@ ended_entry address i why =
 
 -- "operands come from the general map (ready if valid)"
 abbrev pub operand_on : Core → ℕ → Operand
-operand_on m r = shown_operand r (look_up m.mapname r) (look_up m.mapregister r) (look_valid m.mapvalid r)
+operand_on m r = shown_operand r (look_up m.map.names r) (look_up m.map.registers r) (look_valid m.map.valid r)
 
 -- "then the destination takes a name, the old name is kept, …; the entry waits"
 abbrev pub name_for : Core → ℕ → ℕ
-name_for m d = choose (eqb d 0) 0 m.namehead
+name_for m d = choose (eqb d 0) 0 m.free_names.head
 
 abbrev pub waiting_for : Instruction → ℕ → ℕ → Operand → Operand → ℕ → ℕ → Entry
 waiting_for i address predicted left right name previous =
@@ -76,7 +76,7 @@ waiting_for i address predicted left right name previous =
 abbrev pub started_entry : Core → Instruction → ℕ → Entry
 started_entry m i guess =
     waiting_for i m.fetch (predicted_next i m.fetch guess) (operand_on m (first_source i)) (operand_on m (second_source i)) (name_for m (destination i))
-    (look_up m.mapname (destination i))
+    (look_up m.map.names (destination i))
 
 -- the entry that decode enters
 abbrev pub entry_for : Core → FetchNumbers → ℕ → Entry
@@ -85,7 +85,7 @@ entry_for m f guess = choose (eqb (entering_stop f).cause 0) (started_entry m f.
 -- the general map shows a name under its destination, "valid is cleared"; the pool of names is without its head where there is a destination
 abbrev pub renamed : ℕ → ℕ → Core → Core
 renamed d name m =
-    with_free_names (choose (eqb d 0) m.namehead (taken_head m.namelink m.namehead)) (taken_link m.namelink name) (map_to d name 0 false m)
+    with_free_names (choose (eqb d 0) m.free_names.head (taken_head m.free_names.link m.free_names.head)) (taken_link m.free_names.link name) (map_to d name 0 false m)
 
 -- an entry enters; "Fetch goes there"
 abbrev pub appended : Entry → Core → Core

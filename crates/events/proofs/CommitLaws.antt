@@ -72,7 +72,7 @@ counted_turn program w call made (settles i q goes none e) =
     (counted_quiet w call _ (ap is_commit q) (steady_both w.core (place i (completed_entry 0 (entry_at w.core i)) w.core) _ (steady_place i _ w.core) (steady_redirected i _ _)))
 counted_turn program w call made (takes i q goes some free e) =
     let m : Core = w.core in
-    let taught : Core = learned i m.registerhead (outcome_at m i).result m in
+    let taught : Core = learned i m.free_registers.head (outcome_at m i).result m in
     counted_made w call made _ _ _ e (counted_quiet w call _ (ap is_commit q) (steady_both m taught _ (steady_learned i _ _ m) (steady_redirected i _ taught)))
 counted_turn program w call made (steals i v q goes some none victim above there holds e) =
     let m : Core = w.core in

@@ -2,3 +2,5 @@
 pub mod EventLaws
 pub mod CommitLaws
 pub mod Laws
+pub mod Going
+pub mod CountLaws

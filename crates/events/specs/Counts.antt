@@ -1,7 +1,7 @@
 -- What the events of a schedule count.
 use Rattle.std.specs.Prelude.{ℕ, ◌+◌, ◌&&◌, List, [], ◌∷◌, eqb}
 use Rattle.isa.specs.Reads.{choose}
-use Rattle.formats.specs.Chain.{decode_kind, issue_kind, complete_kind}
+use Rattle.formats.specs.Kind.{decode_kind, issue_kind, complete_kind}
 use Rattle.formats.specs.declared.Record.{Record}
 use Rattle.renaming.specs.declared.Core.{Core}
 use Rattle.window.specs.Calls.{World, Made, make, is_commit, stolen, dropped}

@@ -1,34 +1,36 @@
 // What one event adds to the counts.
-ghost use Rattle.std.specs.Prelude.{◌≡◌, ◌≤◌};
-ghost use Rattle.events.specs.Counts as Count;
-ghost use Rattle.events.specs.Numbers as Numbers;
+ghost use Rattle.std.specs.Prelude.{◌≡◌};
+ghost use Rattle.events.specs.Counts.{refusing};
+ghost use Rattle.events.specs.Numbers.{Small, accepting_by};
 
 use crate::Counts;
+use renaming::Core;
+use window::Call;
 
-// Inner: replay's loop uses it.
-pub fn accepted(c: Counts, committed: u32, steals: u32, dropped: u32) -> Counts
-    requires { Numbers.Small 100_000_000 c × (committed ≤ 1) × (steals ≤ 1) × (dropped ≤ 255) }
-    ensures { result ≡ Numbers.adding committed steals dropped c }
-{
-    Counts {
-        accepted: c.accepted + 1,
-        refused: c.refused,
-        committed: c.committed + committed,
-        steals: c.steals + steals,
-        dropped: c.dropped + dropped,
+impl Counts {
+    // An accepted call: by the entries before it, whether it stole a register, and the machine after it. A difference ends at
+    // 0, as in the definitions. Inner: replay's loop uses it.
+    pub fn accept(&mut self, call: Call, entries: u8, stole: bool, after: &Core)
+        requires { Small 100_000_000 self.old }
+        ensures { self.new ≡ accepting_by call entries stole after.now self.old }
+    {
+        self.accepted += 1;
+        self.steals += u32::from(stole);
+        // the halting entry is not a dropped one
+        let others = entries.saturating_sub(1);
+        match call {
+            Call::Decode(_) | Call::Issue(_) => {}
+            Call::Complete(_) => self.dropped += u32::from(entries.saturating_sub(after.count)),
+            Call::Commit if after.halt.cause != 0 => self.dropped += u32::from(others),
+            Call::Commit => self.committed += 1,
+        }
     }
-}
 
-// Inner: replay's loop uses it.
-pub fn refused(c: Counts) -> Counts
-    requires { Numbers.Small 100_000_000 c }
-    ensures { result ≡ Count.refusing c }
-{
-    Counts {
-        accepted: c.accepted,
-        refused: c.refused + 1,
-        committed: c.committed,
-        steals: c.steals,
-        dropped: c.dropped,
+    // Inner: replay's loop uses it.
+    pub fn refuse(&mut self)
+        requires { Small 100_000_000 self.old }
+        ensures { self.new ≡ refusing self.old }
+    {
+        self.refused += 1;
     }
 }

@@ -1,20 +1,22 @@
 -- Laws of loads and stores, over the size.
-use Prim.Native.Nat.{ℕ, ◌+◌, ◌%◌, ◌≤◌, ◌<◌}
+use Prim.Native.Nat.{ℕ, ◌+◌, ◌%◌, ◌^◌, ◌≤◌, ◌<◌}
 use mathlib.Core.Path.{◌≡◌, refl, ap}
 use mathlib.Core.Bool.{Bool, true, false}
 use mathlib.Core.List.{List}
 use native.Mathlib.Omega.{arith}
-use borrow.Author.Tests.{leb-true, le-leb, lt-leb}
+use borrow.Author.Tests.{leb-true, lt-ltb}
+use Rattle.std.proofs.lemmas.Nat.{pow_pos}
+use Rattle.std.proofs.Math.Nat.{one-le-pow}
+use Rattle.word.specs.Signed.{word_of, extend}
 use lib.Dec.{leb, eqb}
 use lib.ListN.{length}
-use Rattle.word.specs.Bytes.{put}
+use Rattle.word.specs.Bytes.{number, put}
 use Rattle.word.proofs.BytesLaws.{number_same, put_length}
 use Rattle.laws.proofs.Bools.{and_right}
 use Rattle.isa.specs.Reads.{choose}
-use Rattle.isa.specs.declared.Instruction.{Instruction}
-use Rattle.execution.specs.Actions.{Action, Computes, LoadsSigned, LoadsUnsigned, Stores, Stops, action_of}
-use Rattle.execution.specs.Codes.{class}
-use Rattle.execution.specs.Memory.{accessible, effective, sign_extended, second_by, stored_by, ends_within_by, store_ends_within}
+use Rattle.execution.specs.declared.Action.{Action}
+use Rattle.execution.specs.declared.Action.TheVariants.{Computes, LoadsSigned, LoadsUnsigned, Stores, Stops}
+use Rattle.execution.specs.Memory.{accessible, sign_extended, second_by, stored_by}
 
 -- an access stays within the length
 pub access_room : (len address size : ℕ) → accessible len address size ≡ true → address + size ≤ len
@@ -24,23 +26,25 @@ access_room len address size e = leb-true (address + size) len (and_right (eqb (
 within : (len address size k : ℕ) → accessible len address size ≡ true → k < address + size → k < len
 within len address size k e h = let r = access_room len address size e in omega arith
 
--- a load's value does not depend on the operand
-module _ (a : Action) (size len address second : ℕ) (byte : ℕ → ℕ) where
-  pub second_signed : a ≡ LoadsSigned size → second_by (LoadsSigned size) len address 0 byte ≡ second_by a len address second byte
-  unfolding second_by
-  second_signed e = rw e
+-- an access that stops gives 0, extended too
+choose_zero : (f : ℕ → ℕ) (b : Bool) (x : ℕ) → f 0 ≡ 0 → f (choose b x 0) ≡ choose b (f x) 0
+choose_zero f true x e = refl
+choose_zero f false x e = e
 
-  pub second_unsigned : a ≡ LoadsUnsigned size → second_by (LoadsUnsigned size) len address 0 byte ≡ second_by a len address second byte
-  unfolding second_by
-  second_unsigned e = rw e
+extended_zero : (half : ℕ) → 0 < half → word_of (extend half 0) ≡ 0
+unfolding extend
+extended_zero half h = rw (lt-ltb 0 half h)
 
-pub second_other : (a : Action) (len address second : ℕ) (byte : ℕ → ℕ) → (class a ≡ 8 → ⊥) → (class a ≡ 9 → ⊥) → second_by a len address second byte ≡ second
+sign_extended_zero : (size : ℕ) → sign_extended size 0 ≡ 0
+sign_extended_zero size = extended_zero _ (pow_pos _)
+
+pub second_signed : (size len address second : ℕ) (byte : ℕ → ℕ)
+    → sign_extended size (second_by (LoadsUnsigned size) len address 0 byte) ≡ second_by (LoadsSigned size) len address second byte
 unfolding second_by
-second_other (Computes computation) len address second byte h g = refl
-second_other (LoadsSigned size) len address second byte h g = absurd (h refl)
-second_other (LoadsUnsigned size) len address second byte h g = absurd (g refl)
-second_other (Stores size) len address second byte h g = refl
-second_other (Stops cause) len address second byte h g = refl
+second_signed size len address second byte = choose_zero (sign_extended size) (accessible len address size) (number byte address size) (sign_extended_zero size)
+
+pub byte_powers : (size : ℕ) → 0 < 256 ^ size
+byte_powers size = one-le-pow size 256 (omega arith)
 
 -- what a load finds depends only on the bytes below the length
 choose_same : {A : Type 0} (b : Bool) (x y z : A) → (b ≡ true → x ≡ y) → choose b x z ≡ choose b y z
@@ -57,23 +61,7 @@ second_same (LoadsUnsigned size) len address second f g same =
 second_same (Stores size) len address second f g same = refl
 second_same (Stops cause) len address second f g same = refl
 
--- the memory after a store
-pub stored_done : (size address value : ℕ) (memory : List ℕ) → address + size ≤ length memory → stored_by (Stores size) address value memory ≡ put memory address size value
-unfolding stored_by
-stored_done size address value memory h = rw (le-leb (address + size) (length memory) h)
-
-pub stored_not : (size address value : ℕ) (memory : List ℕ) → length memory < address + size → stored_by (Stores size) address value memory ≡ memory
-unfolding stored_by
-stored_not size address value memory h = rw (lt-leb (address + size) (length memory) h)
-
-pub stored_other : (a : Action) (address value : ℕ) (memory : List ℕ) → (class a ≡ 10 → ⊥) → stored_by a address value memory ≡ memory
-unfolding stored_by
-stored_other (Computes computation) address value memory h = refl
-stored_other (LoadsSigned size) address value memory h = refl
-stored_other (LoadsUnsigned size) address value memory h = refl
-stored_other (Stores size) address value memory h = absurd (h refl)
-stored_other (Stops cause) address value memory h = refl
-
+-- a store keeps the length
 choose_length : (b : Bool) (x y : List ℕ) → length x ≡ length y → length (choose b x y) ≡ length y
 choose_length true x y e = e
 choose_length false x y e = refl
@@ -85,16 +73,3 @@ stored_length (LoadsSigned size) address value memory = refl
 stored_length (LoadsUnsigned size) address value memory = refl
 stored_length (Stores size) address value memory = choose_length (leb (address + size) (length memory)) (put memory address size value) memory (put_length size memory address value)
 stored_length (Stops cause) address value memory = refl
-
--- where a store ends
-pub ends_other : (a : Action) (len address : ℕ) → (class a ≡ 10 → ⊥) → true ≡ ends_within_by a len address
-unfolding ends_within_by
-ends_other (Computes computation) len address h = refl
-ends_other (LoadsSigned size) len address h = refl
-ends_other (LoadsUnsigned size) len address h = refl
-ends_other (Stores size) len address h = absurd (h refl)
-ends_other (Stops cause) len address h = refl
-
-pub ends_store : (i : Instruction) (first len size : ℕ) → action_of i.operation ≡ Stores size → leb (effective i first + size) len ≡ store_ends_within len i first
-unfolding ends_within_by
-ends_store i first len size e = rw e

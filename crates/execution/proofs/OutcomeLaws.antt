@@ -10,7 +10,11 @@ use Rattle.isa.specs.Reads.{choose}
 use Rattle.isa.specs.declared.Instruction.{Instruction}
 use Rattle.word.specs.Arithmetic.{sum}
 use Rattle.word.specs.Signed.{word_of}
-use Rattle.execution.specs.Actions.{Computation, Upper, UpperAddress, Jump, JumpRegister, Branch, Immediate, Register, Action, Computes, LoadsSigned, LoadsUnsigned, Stores, Stops, actions, action_of}
+use Rattle.execution.specs.declared.Computation.{Computation}
+use Rattle.execution.specs.declared.Computation.TheVariants.{Upper, UpperAddress, Jump, JumpRegister, Branch, Immediate, Register}
+use Rattle.execution.specs.declared.Action.{Action}
+use Rattle.execution.specs.declared.Action.TheVariants.{Computes, LoadsSigned, LoadsUnsigned, Stores, Stops}
+use Rattle.execution.specs.Actions.{actions, action_of}
 use Rattle.execution.specs.Memory.{accessible, ends_within_by, store_ends_within}
 use Rattle.execution.specs.Execute.{goes, stops, jumps, onward, holds, performed, executed_by, executed}
 use Rattle.execution.specs.declared.Outcome.{Outcome}

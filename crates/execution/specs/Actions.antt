@@ -1,22 +1,10 @@
 -- What each operation does: a row for each, in the order of the manual's listing.
 use Rattle.std.specs.Prelude.{List, [], ◌∷◌, ℕ, get_or}
-
-pub data Alu : Type 0 where
-  ADD SUB SLL SLT SLTU XOR SRL SRA OR AND : Alu
-
-pub data Condition : Type 0 where
-  EQ NE LT GE LTU GEU : Condition
-
--- Upper: the constant in bits 31–12; UpperAddress: that, added to the address. Immediate: the second operand is the constant.
-pub data Computation : Type 0 where
-  Upper UpperAddress Jump JumpRegister : Computation
-  Branch : Condition → Computation
-  Immediate Register : Alu → Computation
-
--- a load or a store by its size in bytes; a stop by its cause
-pub data Action : Type 0 where
-  Computes : Computation → Action
-  LoadsSigned LoadsUnsigned Stores Stops : ℕ → Action
+use Rattle.execution.specs.declared.Alu.TheVariants.{Add, Sub, Sll, Slt, Sltu, Xor, Srl, Sra, Or, And}
+use Rattle.execution.specs.declared.Condition.TheVariants.{Eq, Ne, Lt, Ge, Ltu, Geu}
+use Rattle.execution.specs.declared.Computation.TheVariants.{Upper, UpperAddress, Jump, JumpRegister, Branch, Immediate, Register}
+use Rattle.execution.specs.declared.Action.{Action}
+use Rattle.execution.specs.declared.Action.TheVariants.{Computes, LoadsSigned, LoadsUnsigned, Stores, Stops}
 
 abbrev pub actions : List Action
 actions =
@@ -25,12 +13,12 @@ actions =
     ∷ Computes UpperAddress  -- 2 AUIPC
     ∷ Computes Jump  -- 3 JAL
     ∷ Computes JumpRegister  -- 4 JALR
-    ∷ Computes (Branch EQ)  -- 5 BEQ
-    ∷ Computes (Branch NE)  -- 6 BNE
-    ∷ Computes (Branch LT)  -- 7 BLT
-    ∷ Computes (Branch GE)  -- 8 BGE
-    ∷ Computes (Branch LTU)  -- 9 BLTU
-    ∷ Computes (Branch GEU)  -- 10 BGEU
+    ∷ Computes (Branch Eq)  -- 5 BEQ
+    ∷ Computes (Branch Ne)  -- 6 BNE
+    ∷ Computes (Branch Lt)  -- 7 BLT
+    ∷ Computes (Branch Ge)  -- 8 BGE
+    ∷ Computes (Branch Ltu)  -- 9 BLTU
+    ∷ Computes (Branch Geu)  -- 10 BGEU
     ∷ LoadsSigned 1  -- 11 LB
     ∷ LoadsSigned 2  -- 12 LH
     ∷ LoadsUnsigned 4  -- 13 LW
@@ -39,25 +27,25 @@ actions =
     ∷ Stores 1  -- 16 SB
     ∷ Stores 2  -- 17 SH
     ∷ Stores 4  -- 18 SW
-    ∷ Computes (Immediate ADD)  -- 19 ADDI
-    ∷ Computes (Immediate SLT)  -- 20 SLTI
-    ∷ Computes (Immediate SLTU)  -- 21 SLTIU
-    ∷ Computes (Immediate XOR)  -- 22 XORI
-    ∷ Computes (Immediate OR)  -- 23 ORI
-    ∷ Computes (Immediate AND)  -- 24 ANDI
-    ∷ Computes (Immediate SLL)  -- 25 SLLI
-    ∷ Computes (Immediate SRL)  -- 26 SRLI
-    ∷ Computes (Immediate SRA)  -- 27 SRAI
-    ∷ Computes (Register ADD)  -- 28 ADD
-    ∷ Computes (Register SUB)  -- 29 SUB
-    ∷ Computes (Register SLL)  -- 30 SLL
-    ∷ Computes (Register SLT)  -- 31 SLT
-    ∷ Computes (Register SLTU)  -- 32 SLTU
-    ∷ Computes (Register XOR)  -- 33 XOR
-    ∷ Computes (Register SRL)  -- 34 SRL
-    ∷ Computes (Register SRA)  -- 35 SRA
-    ∷ Computes (Register OR)  -- 36 OR
-    ∷ Computes (Register AND)  -- 37 AND
+    ∷ Computes (Immediate Add)  -- 19 ADDI
+    ∷ Computes (Immediate Slt)  -- 20 SLTI
+    ∷ Computes (Immediate Sltu)  -- 21 SLTIU
+    ∷ Computes (Immediate Xor)  -- 22 XORI
+    ∷ Computes (Immediate Or)  -- 23 ORI
+    ∷ Computes (Immediate And)  -- 24 ANDI
+    ∷ Computes (Immediate Sll)  -- 25 SLLI
+    ∷ Computes (Immediate Srl)  -- 26 SRLI
+    ∷ Computes (Immediate Sra)  -- 27 SRAI
+    ∷ Computes (Register Add)  -- 28 ADD
+    ∷ Computes (Register Sub)  -- 29 SUB
+    ∷ Computes (Register Sll)  -- 30 SLL
+    ∷ Computes (Register Slt)  -- 31 SLT
+    ∷ Computes (Register Sltu)  -- 32 SLTU
+    ∷ Computes (Register Xor)  -- 33 XOR
+    ∷ Computes (Register Srl)  -- 34 SRL
+    ∷ Computes (Register Sra)  -- 35 SRA
+    ∷ Computes (Register Or)  -- 36 OR
+    ∷ Computes (Register And)  -- 37 AND
     ∷ Stops 2  -- 38 ECALL
     ∷ Stops 3  -- 39 EBREAK
     ∷ []

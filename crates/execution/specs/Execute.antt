@@ -6,31 +6,39 @@ use Rattle.word.specs.Arithmetic.{sum, difference, shift_left, shift_right, shif
 use Rattle.word.specs.Signed.{word_of}
 use Rattle.isa.specs.Reads.{choose}
 use Rattle.isa.specs.declared.Instruction.{Instruction}
-use Rattle.execution.specs.Actions.{Alu, ADD, SUB, SLL, SLT, SLTU, XOR, SRL, SRA, OR, AND, Condition, EQ, NE, LT, GE, LTU, GEU, Computation, Upper, UpperAddress, Jump, JumpRegister, Branch, Immediate, Register, Action, Computes, LoadsSigned, LoadsUnsigned, Stores, Stops, action_of}
+use Rattle.execution.specs.declared.Alu.{Alu}
+use Rattle.execution.specs.declared.Alu.TheVariants.{Add, Sub, Sll, Slt, Sltu, Xor, Srl, Sra, Or, And}
+use Rattle.execution.specs.declared.Condition.{Condition}
+use Rattle.execution.specs.declared.Condition.TheVariants.{Eq, Ne, Lt, Ge, Ltu, Geu}
+use Rattle.execution.specs.declared.Computation.{Computation}
+use Rattle.execution.specs.declared.Computation.TheVariants.{Upper, UpperAddress, Jump, JumpRegister, Branch, Immediate, Register}
+use Rattle.execution.specs.declared.Action.{Action}
+use Rattle.execution.specs.declared.Action.TheVariants.{Computes, LoadsSigned, LoadsUnsigned, Stores, Stops}
+use Rattle.execution.specs.Actions.{action_of}
 use Rattle.execution.specs.Memory.{accessible}
 use Rattle.execution.specs.declared.Stop.{Stop}
 use Rattle.execution.specs.declared.Outcome.{Outcome}
 
 -- a shift takes the lowest five bits of its second operand; a test gives 1 or 0
 abbrev pub compute : Alu → ℕ → ℕ → ℕ
-compute ADD a b = sum a b
-compute SUB a b = difference a b
-compute SLL a b = shift_left a (b % 32)
-compute SLT a b = bool_byte (less_signed a b)
-compute SLTU a b = bool_byte (ltb a b)
-compute XOR a b = bit_xor a b
-compute SRL a b = shift_right a (b % 32)
-compute SRA a b = shift_right_signed a (b % 32)
-compute OR a b = bit_or a b
-compute AND a b = bit_and a b
+compute Add a b = sum a b
+compute Sub a b = difference a b
+compute Sll a b = shift_left a (b % 32)
+compute Slt a b = bool_byte (less_signed a b)
+compute Sltu a b = bool_byte (ltb a b)
+compute Xor a b = bit_xor a b
+compute Srl a b = shift_right a (b % 32)
+compute Sra a b = shift_right_signed a (b % 32)
+compute Or a b = bit_or a b
+compute And a b = bit_and a b
 
 abbrev pub holds : Condition → ℕ → ℕ → Bool
-holds EQ a b = eqb a b
-holds NE a b = not (eqb a b)
-holds LT a b = less_signed a b
-holds GE a b = not (less_signed a b)
-holds LTU a b = ltb a b
-holds GEU a b = leb b a
+holds Eq a b = eqb a b
+holds Ne a b = not (eqb a b)
+holds Lt a b = less_signed a b
+holds Ge a b = not (less_signed a b)
+holds Ltu a b = ltb a b
+holds Geu a b = leb b a
 
 abbrev pub stop : ℕ → Stop
 stop cause = record { cause = cause }

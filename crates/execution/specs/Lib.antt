@@ -3,4 +3,3 @@ pub mod Actions
 pub mod Memory
 pub mod Execute
 pub mod Roles
-pub mod Codes

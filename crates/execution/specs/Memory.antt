@@ -1,11 +1,13 @@
 -- Loads and stores, over their size in bytes.
-use Rattle.std.specs.Prelude.{ℕ, ◌+◌, ◌-◌, ◌*◌, ◌%◌, ◌^◌, Bool, true, ◌&&◌, List, leb, eqb, length}
+use Rattle.std.specs.Prelude.{ℕ, ◌+◌, ◌-◌, ◌*◌, ◌%◌, ◌^◌, ◌<◌, ◌≤◌, Bool, true, ◌&&◌, List, leb, eqb, length}
 use Rattle.word.specs.Arithmetic.{sum}
 use Rattle.word.specs.Bytes.{number, byte_of, put}
 use Rattle.word.specs.Signed.{word_of, extend}
 use Rattle.isa.specs.Reads.{choose}
 use Rattle.isa.specs.declared.Instruction.{Instruction}
-use Rattle.execution.specs.Actions.{Action, Computes, LoadsSigned, LoadsUnsigned, Stores, Stops, action_of}
+use Rattle.execution.specs.declared.Action.{Action}
+use Rattle.execution.specs.declared.Action.TheVariants.{Computes, LoadsSigned, LoadsUnsigned, Stores, Stops}
+use Rattle.execution.specs.Actions.{action_of}
 
 -- not "no multiple of its size or whose bytes leave the data"
 unfoldable pub accessible : ℕ → ℕ → ℕ → Bool
@@ -18,6 +20,14 @@ effective i first = sum first (word_of i.constant)
 -- size bytes as a signed number, extended to 32 bits
 abbrev pub sign_extended : ℕ → ℕ → ℕ
 sign_extended size n = word_of (extend (2 ^ (8 * size - 1)) n)
+
+-- a load of at most 4 bytes, a signed one of 1 to 3; other actions load nothing
+abbrev pub Loadable : Action → Type 0
+Loadable (Computes computation) = Unit {0}
+Loadable (LoadsSigned size) = (0 < size) × (size < 4)
+Loadable (LoadsUnsigned size) = size ≤ 4
+Loadable (Stores size) = Unit {0}
+Loadable (Stops cause) = Unit {0}
 
 -- "a load reads data, extended to 32 bits, as its second value (0 where cause 6 applies)"
 unfoldable pub second_by : Action → ℕ → ℕ → ℕ → (ℕ → ℕ) → ℕ

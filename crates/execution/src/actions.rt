@@ -1,96 +1,59 @@
-// What each operation does, as two numbers: the class and, within it, the arithmetic function, the condition, the size
-// in bytes or the cause. Both are matches, since a const table is built anew at each use.
-ghost use Rattle.std.specs.Prelude.{◌≡◌, ◌≤◌, get_or};
-ghost use Rattle.isa.specs.Listing.{last};
-ghost use Rattle.execution.specs.Codes.{classes, kinds};
+ghost use Rattle.std.specs.Prelude.{◌≡◌};
+ghost use Rattle.execution.specs.Actions.{action_of};
+ghost use Rattle.execution.specs.Memory.{Loadable};
 
-use crate::alu;
+use crate::Action;
+use crate::Action::{Computes, LoadsSigned, LoadsUnsigned, Stops, Stores};
+use crate::Alu::{Add, And, Or, Sll, Slt, Sltu, Sra, Srl, Sub, Xor};
+use crate::Computation::{Branch, Immediate, Jump, JumpRegister, Register, Upper, UpperAddress};
+use crate::Condition::{Eq, Ge, Geu, Lt, Ltu, Ne};
 
-// the classes; IMMEDIATE is arithmetic with a constant, REGISTER arithmetic of registers
-pub const STOP: u8 = 0;
-
-pub const LUI: u8 = 1;
-
-pub const AUIPC: u8 = 2;
-
-pub const JAL: u8 = 3;
-
-pub const JALR: u8 = 4;
-
-pub const BRANCH: u8 = 5;
-
-pub const IMMEDIATE: u8 = 6;
-
-pub const REGISTER: u8 = 7;
-
-pub const LOAD_SIGNED: u8 = 8;
-
-pub const LOAD_UNSIGNED: u8 = 9;
-
-pub const STORE: u8 = 10;
-
-// Inner: the step and the calls use it.
-pub fn class(operation: usize) -> u8
-    requires { operation ≤ last }
-    ensures { result ≡ get_or classes operation 0 }
+// What the operation does; a number that is none stops as an illegal word does. A match, since a const table is built
+// anew at each use. Inner: the step and the calls use it.
+pub fn action(operation: u8) -> Action
+    ensures listed { result ≡ action_of operation }
+    ensures loadable { Loadable result }
 {
     match operation {
-        0..=4 => operation as u8, // STOP, LUI, AUIPC, JAL, JALR
-        5..=10 => BRANCH,
-        11 | 12 => LOAD_SIGNED, // LB, LH
-        13..=15 => LOAD_UNSIGNED, // LW, LBU, LHU
-        16..=18 => STORE,
-        19..=27 => IMMEDIATE,
-        28..=37 => REGISTER,
-        _ => STOP, // ECALL, EBREAK
-    }
-}
-
-// Inner: the step and the calls use it.
-pub fn kind(operation: usize) -> u8
-    requires { operation ≤ last }
-    ensures { result ≡ get_or kinds operation 0 }
-{
-    match operation {
-        0 => 1, // no operation
-        1 => 0, // LUI
-        2 => 0, // AUIPC
-        3 => 0, // JAL
-        4 => 0, // JALR
-        5 => alu::EQ, // BEQ
-        6 => alu::NE, // BNE
-        7 => alu::LT, // BLT
-        8 => alu::GE, // BGE
-        9 => alu::LTU, // BLTU
-        10 => alu::GEU, // BGEU
-        11 => 1, // LB
-        12 => 2, // LH
-        13 => 4, // LW
-        14 => 1, // LBU
-        15 => 2, // LHU
-        16 => 1, // SB
-        17 => 2, // SH
-        18 => 4, // SW
-        19 => alu::ADD, // ADDI
-        20 => alu::SLT, // SLTI
-        21 => alu::SLTU, // SLTIU
-        22 => alu::XOR, // XORI
-        23 => alu::OR, // ORI
-        24 => alu::AND, // ANDI
-        25 => alu::SLL, // SLLI
-        26 => alu::SRL, // SRLI
-        27 => alu::SRA, // SRAI
-        28 => alu::ADD, // ADD
-        29 => alu::SUB, // SUB
-        30 => alu::SLL, // SLL
-        31 => alu::SLT, // SLT
-        32 => alu::SLTU, // SLTU
-        33 => alu::XOR, // XOR
-        34 => alu::SRL, // SRL
-        35 => alu::SRA, // SRA
-        36 => alu::OR, // OR
-        37 => alu::AND, // AND
-        38 => 2, // ECALL
-        _ => 3, // EBREAK
+        1 => Computes(Upper), // LUI
+        2 => Computes(UpperAddress), // AUIPC
+        3 => Computes(Jump), // JAL
+        4 => Computes(JumpRegister), // JALR
+        5 => Computes(Branch(Eq)), // BEQ
+        6 => Computes(Branch(Ne)), // BNE
+        7 => Computes(Branch(Lt)), // BLT
+        8 => Computes(Branch(Ge)), // BGE
+        9 => Computes(Branch(Ltu)), // BLTU
+        10 => Computes(Branch(Geu)), // BGEU
+        11 => LoadsSigned(1), // LB
+        12 => LoadsSigned(2), // LH
+        13 => LoadsUnsigned(4), // LW
+        14 => LoadsUnsigned(1), // LBU
+        15 => LoadsUnsigned(2), // LHU
+        16 => Stores(1), // SB
+        17 => Stores(2), // SH
+        18 => Stores(4), // SW
+        19 => Computes(Immediate(Add)), // ADDI
+        20 => Computes(Immediate(Slt)), // SLTI
+        21 => Computes(Immediate(Sltu)), // SLTIU
+        22 => Computes(Immediate(Xor)), // XORI
+        23 => Computes(Immediate(Or)), // ORI
+        24 => Computes(Immediate(And)), // ANDI
+        25 => Computes(Immediate(Sll)), // SLLI
+        26 => Computes(Immediate(Srl)), // SRLI
+        27 => Computes(Immediate(Sra)), // SRAI
+        28 => Computes(Register(Add)), // ADD
+        29 => Computes(Register(Sub)), // SUB
+        30 => Computes(Register(Sll)), // SLL
+        31 => Computes(Register(Slt)), // SLT
+        32 => Computes(Register(Sltu)), // SLTU
+        33 => Computes(Register(Xor)), // XOR
+        34 => Computes(Register(Srl)), // SRL
+        35 => Computes(Register(Sra)), // SRA
+        36 => Computes(Register(Or)), // OR
+        37 => Computes(Register(And)), // AND
+        38 => Stops(2), // ECALL
+        39 => Stops(3), // EBREAK
+        0 | 40.. => Stops(1), // no operation
     }
 }

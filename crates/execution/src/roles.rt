@@ -1,53 +1,48 @@
 // What the renaming core asks of an instruction.
-ghost use Rattle.std.specs.Prelude.{◌≡◌, ◌≤◌};
-ghost use Rattle.isa.specs.Listing.{last};
+ghost use Rattle.std.specs.Prelude.{◌≡◌};
 ghost use Rattle.execution.specs.Roles as Roles;
 
-use crate::{Stop, actions};
+use crate::{Action, Computation, Stop, actions};
 use isa::Instruction;
 
 // Inner: the step and the calls use it.
+#[tactic(auto, unfolding(crate::specs::Roles::loads_by))]
 pub fn is_load(i: Instruction) -> bool
-    requires { i.operation ≤ last }
     ensures { result ≡ Roles.loads i }
 {
-    let class = actions::class(i.operation as usize);
-    (class == actions::LOAD_SIGNED) | (class == actions::LOAD_UNSIGNED)
+    matches!(
+        actions::action(i.operation),
+        Action::LoadsSigned(_) | Action::LoadsUnsigned(_)
+    )
 }
 
 // Inner: the step and the calls use it.
+#[tactic(auto, unfolding(crate::specs::Roles::stores_by))]
 pub fn is_store(i: Instruction) -> bool
-    requires { i.operation ≤ last }
     ensures { result ≡ Roles.stores i }
 {
-    actions::class(i.operation as usize) == actions::STORE
+    matches!(actions::action(i.operation), Action::Stores(_))
 }
 
 // the stop of ECALL and EBREAK, without a cause for all that execute. Inner: the step and the calls use it.
+#[tactic(auto, unfolding(crate::specs::Roles::stop_by))]
 pub fn stop_at_once(i: Instruction) -> Stop
-    requires { i.operation ≤ last }
     ensures { result ≡ Roles.stop_at_once i }
 {
-    let operation = i.operation as usize;
-    if actions::class(operation) == actions::STOP {
-        let cause = actions::kind(operation);
-        return Stop { cause };
+    match actions::action(i.operation) {
+        Action::Stops(cause) => Stop { cause },
+        _ => Stop { cause: 0 },
     }
-    Stop { cause: 0 }
 }
 
 // the guess for branches and JALR, the target for JAL, else the address after. Inner: the step and the calls use it.
+#[tactic(auto, unfolding(crate::specs::Roles::predicted_by))]
 pub fn predicted_next(i: Instruction, address: u32, guess: u32) -> u32
-    requires { i.operation ≤ last }
     ensures { result ≡ Roles.predicted_next i address guess }
 {
-    let class = actions::class(i.operation as usize);
-    let constant = word::to_word(i.constant);
-    if class == actions::JAL {
-        return word::add(address, constant);
+    match actions::action(i.operation) {
+        Action::Computes(Computation::Jump) => word::add(address, word::to_word(i.constant)),
+        Action::Computes(Computation::JumpRegister | Computation::Branch(_)) => guess,
+        _ => word::add(address, 4),
     }
-    if (class == actions::JALR) | (class == actions::BRANCH) {
-        return guess;
-    }
-    word::add(address, 4)
 }

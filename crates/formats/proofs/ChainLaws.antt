@@ -1,30 +1,57 @@
 -- The walk along the chain, one record after the other, and the refusals of a record.
 use Prim.Native.Nat.{ℕ, zero, suc, ◌+◌, ◌-◌, ◌≤◌, ◌<◌}
-use mathlib.Core.Path.{◌≡◌, refl}
-use mathlib.Core.Bool.{Bool, true, false}
+use mathlib.Core.Path.{◌≡◌, refl, ◌∙◌}
+use mathlib.Core.Bool.{Bool, true, false, not, ◌||◌}
 use mathlib.Core.List.{List, [], ◌∷◌}
 use native.Mathlib.Omega.{arith}
 use borrow.Author.Tests.{eq-eqb, ne_eqb, le-leb, lt-leb}
-use lib.Dec.{eqb-suc-zero}
+use lib.Dec.{eqb, eqb-suc-zero}
 use lib.ListN.{get_or, set}
 use Rattle.reference.specs.Step.{first}
 use Rattle.formats.specs.Schedule.{record_at, records}
+use Rattle.formats.specs.Kind.{number_of_kind}
+use Rattle.formats.specs.declared.kind.Kind.{Kind}
+use Rattle.formats.specs.declared.kind.Kind.TheVariants.{Decode, Issue, Complete, Commit}
 use Rattle.formats.specs.Chain.{unknown_kind, unwanted, record_refusal}
 use Rattle.formats.specs.declared.Record.{Record}
 use Rattle.formats.proofs.Marks.{marked}
+
+or_false : (b : Bool) → b || false ≡ b
+or_false true = refl
+or_false false = refl
 
 module _ (r : Record) where
   pub kind_refused : unknown_kind r ≡ true → 24 ≡ record_refusal r
   unfolding record_refusal first
   kind_refused k = rw k
 
-  pub field_refused : unknown_kind r ≡ false → unwanted r ≡ true → 25 ≡ record_refusal r
-  unfolding record_refusal first
-  field_refused k u = rw (k, u)
+  -- by the kind, the field that is not zero
+  abbrev pub unwanted_in : Kind → Bool
+  unwanted_in Decode = not (eqb r.position 0)
+  unwanted_in Issue = not (eqb r.guess 0)
+  unwanted_in Complete = not (eqb r.guess 0)
+  unwanted_in Commit = not (eqb r.position 0) || not (eqb r.guess 0)
 
-  pub record_accepted : unknown_kind r ≡ false → unwanted r ≡ false → 0 ≡ record_refusal r
-  unfolding record_refusal first
-  record_accepted k u = rw (k, u)
+  kind_known : (kind : Kind) → number_of_kind kind ≡ r.kind → unknown_kind r ≡ false
+  kind_known Decode e = rw (← e)
+  kind_known Issue e = rw (← e)
+  kind_known Complete e = rw (← e)
+  kind_known Commit e = rw (← e)
+
+  unwanted_by : (kind : Kind) → number_of_kind kind ≡ r.kind → unwanted r ≡ unwanted_in kind
+  unwanted_by Decode e = rw (← e) (or_false (not (eqb r.position 0)))
+  unwanted_by Issue e = rw (← e)
+  unwanted_by Complete e = rw (← e)
+  unwanted_by Commit e = rw (← e)
+
+  module _ (kind : Kind) (e : number_of_kind kind ≡ r.kind) where
+    pub field_refused : unwanted_in kind ≡ true → 25 ≡ record_refusal r
+    unfolding record_refusal first
+    field_refused u = rw (kind_known kind e, unwanted_by kind e ∙ u)
+
+    pub record_accepted : unwanted_in kind ≡ false → 0 ≡ record_refusal r
+    unfolding record_refusal first
+    record_accepted u = rw (kind_known kind e, unwanted_by kind e ∙ u)
 
 first_last : (x : ℕ) → first (x ∷ []) ≡ x
 unfolding first

@@ -6,7 +6,7 @@ use native.Mathlib.Nat.{div-div-eq-div-mul}
 use native.Mathlib.Numerals.{add-one}
 use native.Mathlib.Omega.{arith}
 use lib.ListN.{length, get_or, set, take, drop, length-append}
-use lib.Seq.{sets, sets-eq, take-suc, take_all, take_at, length-take-le}
+use lib.Seq.{sets, sets-eq, take-suc, take_at, length-take-le}
 use Rattle.word.specs.Bytes.{put}
 use Rattle.formats.specs.Result.{word_bytes, result_bytes}
 
@@ -46,6 +46,3 @@ module _ (words bytes : List ℕ) (i : ℕ) where
       ∙ ap (λ (x : List ℕ). x ++ word_bytes w) e
       ∙ sym (bytes_append (take i words) (w ∷ []))
       ∙ ap result_bytes (sym (take-suc words i 0 l) ∙ ap (λ (x : ℕ). take x words) (sym (add-one i)))
-
-  pub all_laid : length words ≤ i → length bytes ≤ 4 * i → take (4 * i) bytes ≡ result_bytes (take i words) → bytes ≡ result_bytes words
-  all_laid l h e = sym (take_all (4 * i) bytes h) ∙ e ∙ ap result_bytes (take_all i words l)

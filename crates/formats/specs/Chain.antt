@@ -3,23 +3,11 @@ use Rattle.std.specs.Prelude.{ℕ, zero, suc, Bool, false, not, ◌&&◌, ◌||�
 use Rattle.isa.specs.Reads.{choose}
 use Rattle.reference.specs.Step.{when, first}
 use Rattle.formats.specs.Schedule.{record_at, records, first_index}
+use Rattle.formats.specs.Kind.{decode_kind, issue_kind, complete_kind, commit_kind, unknown}
 use Rattle.formats.specs.declared.Record.{Record}
 
--- "Kinds: 1 decode, 2 issue, 3 complete, 4 commit."
-abbrev pub decode_kind : ℕ
-decode_kind = 1
-
-abbrev pub issue_kind : ℕ
-issue_kind = 2
-
-abbrev pub complete_kind : ℕ
-complete_kind = 3
-
-abbrev pub commit_kind : ℕ
-commit_kind = 4
-
 abbrev pub unknown_kind : Record → Bool
-unknown_kind r = not (leb decode_kind r.kind && leb r.kind commit_kind)
+unknown_kind r = unknown r.kind
 
 -- "Position is zero in 1 and 4, guess is zero in 2, 3 and 4."
 abbrev pub unwanted : Record → Bool

@@ -1,65 +1,51 @@
 ghost use Rattle.std.specs.Prelude.{◌≡◌, true, length};
+ghost use Rattle.refusals.specs.Numbers.{number_of};
 ghost use Rattle.formats.specs.Schedule.{schedule_fits};
 ghost use Rattle.formats.specs.Chain as Chain;
 
-use crate::{Record, schedule};
-
-// the kinds of events
-pub const DECODE: u8 = 1;
-
-pub const ISSUE: u8 = 2;
-
-pub const COMPLETE: u8 = 3;
-
-pub const COMMIT: u8 = 4;
+use crate::{Kind, Record, schedule};
+use refusals::Refusal;
 
 const MOST_RECORDS: usize = 8_192;
 
-// refusal 24 for the kind, 25 for a field that must be zero, 0 for none
-fn record_refusal(r: Record) -> u8
-    ensures { result ≡ Chain.record_refusal r }
+// refusal 24 for the kind, 25 for a field that must be zero
+fn check_record(r: Record) -> Result<(), Refusal>
+    ensures { number_of result ≡ Chain.record_refusal r }
 {
-    let kind = r.kind;
-    let known = (DECODE <= kind) & (kind <= COMMIT);
-    if !known {
-        return 24;
+    let unwanted = match Kind::try_from(r.kind)? {
+        Kind::Decode => r.position != 0,
+        Kind::Issue | Kind::Complete => r.guess != 0,
+        Kind::Commit => (r.position != 0) | (r.guess != 0),
+    };
+    if unwanted {
+        return Err(Refusal::FieldNotZero);
     }
-    let position = ((kind == DECODE) | (kind == COMMIT)) & (r.position != 0);
-    let guess = ((kind == ISSUE) | (kind == COMPLETE) | (kind == COMMIT)) & (r.guess != 0);
-    if position | guess {
-        return 25;
-    }
-    0
+    Ok(())
 }
 
-// The first refusal along the chain, 0 for none. A record met is marked, so that one reached twice is seen;
-// no schedule has more than MOST_RECORDS, and no chain more turns than records. Inner: replay uses it.
-pub fn chain_refusal(schedule: &[u8]) -> u8
+// The first refusal along the chain, 22 to 25. A record met is marked, so that one reached twice is seen; no schedule has
+// more than MOST_RECORDS, and no chain more turns than records. Inner: replay uses it.
+pub fn check_chain(schedule: &[u8]) -> Result<(), Refusal>
     requires { schedule_fits (length schedule.now) ≡ true }
-    ensures { result ≡ Chain.schedule_refusal schedule.now }
+    ensures { number_of result ≡ Chain.schedule_refusal schedule.now }
 {
     let records = schedule.len() / schedule::RECORD_LENGTH;
     let mut met = [false; MOST_RECORDS];
     let mut index = schedule::first_index(schedule) as usize;
-    let mut turns = 0;
-    while turns < records {
+    for _ in 0..records {
         if index == 0 {
-            return 0;
+            return Ok(());
         }
         if records <= index {
-            return 22;
+            return Err(Refusal::NextBeyondFile);
         }
         if met[index] {
-            return 23;
+            return Err(Refusal::RecordReachedTwice);
         }
         let r = schedule::record_at(schedule, index);
-        let refusal = record_refusal(r);
-        if refusal != 0 {
-            return refusal;
-        }
+        check_record(r)?;
         met[index] = true;
         index = r.next as usize;
-        turns += 1;
     }
-    0
+    Ok(())
 }

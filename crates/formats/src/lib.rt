@@ -2,16 +2,19 @@
 #![tactic(auto)]
 
 pub mod chain;
+pub mod kind;
 pub mod result;
 pub mod schedule;
 
-pub use chain::{COMMIT, COMPLETE, DECODE, ISSUE, chain_refusal};
+pub use chain::check_chain;
+pub use kind::Kind;
 pub use result::{RESULT_LENGTH, RESULT_WORDS, lay, rate};
-pub use schedule::{RECORD_LENGTH, first_index, head_refusal, record_at, registers_in, window_in};
+pub use schedule::{RECORD_LENGTH, check_head, first_index, record_at, registers_in, window_in};
 
 // One event of a schedule, and the index of the record after it.
-#[derive(Clone, Copy)]
+#[derive(Clone, Copy, Debug, PartialEq, Eq)]
 pub struct Record {
+    // a number and no `Kind`: refusal 24 answers a number that is no kind
     pub kind: u8,
     pub position: u8,
     pub next: u16,

@@ -1,13 +1,16 @@
 ghost use Rattle.std.specs.Prelude.{◌≡◌, ◌+◌, ◌*◌, ◌≤◌, length};
+ghost use Rattle.refusals.specs.Numbers.{number_of};
 ghost use Rattle.formats.specs.Schedule as Schedule;
 
 use crate::Record;
+use refusals::Refusal;
 
 pub const RECORD_LENGTH: usize = 8;
 
 pub const LONGEST: usize = 65_536;
 
 // the record at an index; replay calls it once an event. Inner: replay uses it.
+#[tactic(auto, unfolding(crate::specs::Schedule::record_at))]
 pub fn record_at(schedule: &[u8], index: usize) -> Record
     requires { Schedule.record_length * index + Schedule.record_length ≤ length schedule.now }
     ensures { result ≡ Schedule.record_at schedule.now index }
@@ -21,25 +24,27 @@ pub fn record_at(schedule: &[u8], index: usize) -> Record
     }
 }
 
-// refusal 20 for the length, 21 for record 0, 0 for none. Inner: replay uses it.
-pub fn head_refusal(schedule: &[u8]) -> u8
-    ensures { result ≡ Schedule.head_refusal schedule.now }
+// refusal 20 for the length, 21 for record 0. Inner: replay uses it.
+#[tactic(auto, unfolding(crate::specs::Schedule::head_refusal, reference::specs::Step::first))]
+pub fn check_head(schedule: &[u8]) -> Result<(), Refusal>
+    ensures { number_of result ≡ Schedule.head_refusal schedule.now }
 {
     let bytes = schedule.len();
     let fits = (1 <= bytes) & (bytes <= LONGEST) & (bytes % RECORD_LENGTH == 0);
     if !fits {
-        return 20;
+        return Err(Refusal::ScheduleLength);
     }
     let kind = word::load(schedule, 0, 1);
     let zeros = word::load(schedule, 5, 3);
     let formed = (kind == 0) & (zeros == 0);
     if !formed {
-        return 21;
+        return Err(Refusal::FirstRecord);
     }
-    0
+    Ok(())
 }
 
-// W, out of record 0. Inner: replay uses it.
+// W, out of record 0; each of its parts has a function and none needs a struct, since the chain reads the first index and
+// set-up the other two. Inner: replay uses it.
 pub fn window_in(schedule: &[u8]) -> u8
     requires { Schedule.record_length ≤ length schedule.now }
     ensures { result ≡ Schedule.window_in schedule.now }

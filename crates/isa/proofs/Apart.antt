@@ -9,8 +9,8 @@ use Rattle.word.specs.Field.{field}
 use Rattle.word.proofs.FieldLaws.{below}
 use Rattle.laws.proofs.Bools.{impossible, both, where_both}
 use Rattle.laws.proofs.Table.{every, at}
-use Rattle.isa.specs.Listing.{Format, R, I, S, B, U, J, Shift, Whole, last, format_of, fixed_of}
-use Rattle.isa.specs.Codes.{fixed_bits}
+use mathlib.Core.List.{List, map}
+use Rattle.isa.specs.Listing.{Format, R, I, S, B, U, J, Shift, Whole, Row, listing, last, format_of, fixed_of}
 use Rattle.isa.specs.Reads.{choose, fixed_part, operation_from}
 use Rattle.isa.proofs.FieldsBack.{fixed_clean}
 
@@ -87,6 +87,10 @@ agree a b =
 abbrev differ : ℕ → ℕ → ℕ → Bool
 differ a b fixed = eqb a b || not (agree a b)
 
+-- the listing's fixed bits
+abbrev fixed_bits : List ℕ
+fixed_bits = map (λ (r : Row). r.fixed) listing
+
 abbrev all_differ : ℕ → ℕ → Bool
 all_differ a fixed = every (differ a) 0 fixed_bits
 
@@ -98,8 +102,8 @@ differ_at a b h g = at (differ a) fixed_bits (at all_differ fixed_bits tt a (ome
 module _ (a b w : ℕ) (ha : a ≤ last) (hb : b ≤ last) (ma : fixed_part (format_of a) w ≡ fixed_of a) (mb : fixed_part (format_of b) w ≡ fixed_of b) where
   agrees : agree a b ≡ true
   agrees =
-      let p = has (format_of a) (fixed_of a) w (fixed_clean a ha) ma in
-      let q = has (format_of b) (fixed_of b) w (fixed_clean b hb) mb in
+      let p = has (format_of a) (fixed_of a) w (fixed_clean a) ma in
+      let q = has (format_of b) (fixed_of b) w (fixed_clean b) mb in
       both (both (both (eq-eqb _ _ (sym p.opcode ∙ q.opcode))
       (where_both (fixes_middle (format_of a)) (fixes_middle (format_of b)) (eqb (field (fixed_of a) 12 3) (field (fixed_of b) 12 3)) (λ s t. eq-eqb _ _ (sym (p.middle s) ∙ q.middle t))))
       (where_both (fixes_upper (format_of a)) (fixes_upper (format_of b)) (eqb (field (fixed_of a) 25 7) (field (fixed_of b) 25 7)) (λ s t. eq-eqb _ _ (sym (p.upper s) ∙ q.upper t))))

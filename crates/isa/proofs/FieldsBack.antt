@@ -12,23 +12,21 @@ use Rattle.word.specs.Signed as Signed
 use Rattle.word.specs.Signed.{extend}
 use Rattle.word.proofs.FieldLaws.{below, split, whole, lowest, two_parts}
 use Rattle.word.proofs.ExtendLaws.{Range, extend_back}
-use Rattle.laws.proofs.Table.{at}
-use Rattle.isa.specs.Listing.{Format, R, I, S, B, U, J, Shift, Whole, last, format_of, fixed_of}
-use Rattle.isa.specs.Codes.{fixed_bits}
+use Rattle.laws.proofs.Table.{anywhere}
+use Rattle.isa.specs.Listing.{Format, R, I, S, B, U, J, Shift, Whole, Row, listing, row_of, format_of, fixed_of}
 use Rattle.isa.specs.Reads.{instruction, fixed_part, constant_of, fields_of}
 use Rattle.isa.specs.Encodes.{limits_of, constant_part}
 use Rattle.isa.specs.declared.Instruction.{Instruction}
 use Rattle.isa.proofs.Accepted.{Within}
-use Rattle.isa.proofs.FormatLaws.{fixed_at}
 use Rattle.isa.proofs.WordBack.{range12, range13, range21}
 
-abbrev clean : ℕ → ℕ → Bool
-clean operation fixed = eqb (fixed_part (format_of operation) fixed) fixed
+abbrev clean : Row → Bool
+clean r = eqb (fixed_part r.format r.fixed) r.fixed
 
 -- an operation's fixed bits leave its fields zero
-pub fixed_clean : (operation : ℕ) → operation ≤ last → fixed_part (format_of operation) (fixed_of operation) ≡ fixed_of operation
+pub fixed_clean : (operation : ℕ) → fixed_part (format_of operation) (fixed_of operation) ≡ fixed_of operation
 unfolding fixed_part field
-fixed_clean operation h = rw (← fixed_at operation) (eqb→eq _ _ (at clean fixed_bits tt operation (omega arith)))
+fixed_clean operation = eqb→eq _ _ (anywhere clean listing (row_of 0) tt tt operation)
 
 -- a word that is made of six parts has those parts
 record Made (w x0 x7 x12 x15 x20 x25 : ℕ) : Type 0 where

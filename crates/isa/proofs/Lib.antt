@@ -1,6 +1,7 @@
 -- Laws of the reader and the encoder.
 pub mod FormatLaws
 pub mod ReadLaws
+mod Turns
 pub mod Parts
 pub mod WordBack
 pub mod Accepted

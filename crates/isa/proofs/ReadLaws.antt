@@ -2,23 +2,22 @@
 use Prim.Native.Nat.{ℕ, zero, suc, ◌+◌, ◌≤◌, ◌<◌}
 use mathlib.Core.Path.{◌≡◌, refl, sym, ap}
 use mathlib.Core.Bool.{Bool, true, false}
+use Rattle.std.specs.Prelude.{Option, Some, None}
 use native.Mathlib.Omega.{arith}
 use borrow.Author.Tests.{eqb-true}
 use lib.Dec.{eqb}
 use Rattle.word.proofs.FieldLaws.{below}
 use Rattle.isa.specs.Listing as Listing
 use Rattle.isa.specs.Listing.{Format, R, I, S, B, U, J, Shift, Whole, format_of, fixed_of}
-use Rattle.isa.specs.Reads.{choose, Numbers, legal, illegal, numbers_of, fixed_part, operation_from, operation_of, fields_of, read_as, read_of}
+use Rattle.isa.specs.Reads.{choose, Numbers, legal, illegal, numbers_of, fixed_part, operation_from, operation_of, found, fields_of, read_as, read_of}
 use Rattle.isa.specs.declared.Instruction.{Instruction}
-use Rattle.isa.specs.declared.Reading.{Reading}
-use Rattle.isa.specs.declared.Reading.TheVariants.{Legal, Illegal}
 
 -- document 01's numbers settle the answer
-pub numbers_injective : (a b : Reading) → numbers_of a ≡ numbers_of b → a ≡ b
-numbers_injective (Legal i) (Legal j) e = ap (λ (n : Numbers). Legal n.fields) e
-numbers_injective (Legal i) Illegal e = let z : ◌≡◌ {A = ℕ} 0 1 = ap (λ (n : Numbers). n.cause) e in absurd (omega arith)
-numbers_injective Illegal (Legal j) e = let z : ◌≡◌ {A = ℕ} 1 0 = ap (λ (n : Numbers). n.cause) e in absurd (omega arith)
-numbers_injective Illegal Illegal e = refl
+pub numbers_injective : (a b : Option Instruction) → numbers_of a ≡ numbers_of b → a ≡ b
+numbers_injective (Some i) (Some j) e = ap (λ (n : Numbers). Some n.fields) e
+numbers_injective (Some i) None e = let z : ◌≡◌ {A = ℕ} 0 1 = ap (λ (n : Numbers). n.cause) e in absurd (omega arith)
+numbers_injective None (Some j) e = let z : ◌≡◌ {A = ℕ} 1 0 = ap (λ (n : Numbers). n.cause) e in absurd (omega arith)
+numbers_injective None None e = refl
 
 -- the reading, by the operation found
 pub read_none : (w : ℕ) → operation_of w ≡ 0 → read_of w ≡ illegal
@@ -33,6 +32,19 @@ pub read_some : (w operation : ℕ) → operation_of w ≡ operation → (operat
 unfolding read_of
 read_some w operation e h = rw e (as_some w operation h)
 
+-- the search's answer, as a number
+pub found_none : (n : ℕ) → None ≡ found n → n ≡ 0
+found_none zero e = refl
+found_none (suc n) e = cc
+
+pub found_some : (n m : ℕ) → Some m ≡ found n → (n ≡ m) × (m ≡ 0 → ⊥)
+found_some zero m e = (cc, λ z. cc)
+found_some (suc n) m e = let s : m ≡ suc n = cc in (cc, λ z. omega arith)
+
+pub some_found : (n : ℕ) → 1 ≤ n → Some n ≡ found n
+some_found zero h = absurd (omega arith)
+some_found (suc n) h = refl
+
 -- what the search found
 pub record Found (w first end operation : ℕ) : Type 0 where
   pub from : first ≤ operation
@@ -45,11 +57,11 @@ found_at n first w operation rest true e later p =
     rw (sym p) (record { from = omega arith; to = omega arith; bits = eqb-true _ _ e })
 found_at n first w operation rest false e later p = let f = later p in record { from = omega arith; to = omega arith; bits = f.bits }
 
-pub found : (n first w operation : ℕ) → (operation ≡ 0 → ⊥) → operation_from n first w ≡ operation → Found w first (first + n) operation
+pub search_found : (n first w operation : ℕ) → (operation ≡ 0 → ⊥) → operation_from n first w ≡ operation → Found w first (first + n) operation
 unfolding operation_from
-found zero first w operation h p = absurd (h (sym p))
-found (suc n) first w operation h p =
-    found_at n first w operation (operation_from n (first + 1) w) (eqb (fixed_part (format_of first) w) (fixed_of first)) refl (found n (first + 1) w operation h) p
+search_found zero first w operation h p = absurd (h (sym p))
+search_found (suc n) first w operation h p =
+    found_at n first w operation (operation_from n (first + 1) w) (eqb (fixed_part (format_of first) w) (fixed_of first)) refl (search_found n (first + 1) w operation h) p
 
 -- what a legal word is
 pub record LegalWord (w : ℕ) (i : Instruction) : Type 0 where
@@ -63,7 +75,7 @@ legal_at : (w operation : ℕ) (i : Instruction) → operation_of w ≡ operatio
 unfolding operation_of
 legal_at w zero i e p = let z : ◌≡◌ {A = ℕ} 1 0 = ap (λ (n : Numbers). n.cause) p in absurd (omega arith)
 legal_at w (suc n) i e p =
-    let f = found Listing.last 1 w (suc n) (λ z. omega arith) e in
+    let f = search_found Listing.last 1 w (suc n) (λ z. omega arith) e in
     record { operation = suc n; first = omega arith; last = omega arith; bits = f.bits; is = sym (ap (λ (x : Numbers). x.fields) p) }
 
 pub legal_word : (w : ℕ) (i : Instruction) → read_of w ≡ legal i → LegalWord w i

@@ -6,10 +6,9 @@ use mathlib.Core.Logic.{◌⊎◌, inl, inr}
 use native.Mathlib.Omega.{arith}
 use Rattle.isa.specs.Listing.{last, format_of, fixed_of}
 use Rattle.isa.specs.Reads.{choose, legal, operation_of, read_of}
-use Rattle.isa.specs.Encodes.{accepted, word_of, written, refused, encoded_of}
+use Rattle.isa.specs.Encodes.{accepted, word_of, Encoded, written, refused, encoded_of}
 use Rattle.isa.specs.Statement.{Statement}
 use Rattle.isa.specs.declared.Instruction.{Instruction}
-use Rattle.isa.specs.declared.Encoded.{Encoded}
 use Rattle.isa.proofs.Accepted.{Accepted, accepted_says, accepted_holds, answer_written, word_fits}
 use Rattle.isa.proofs.Apart.{reach}
 use Rattle.isa.proofs.FieldsBack.{back, fixed_clean}
@@ -23,7 +22,7 @@ unfolding word_of operation_of
 word_read i a =
     let operation = i.operation in
     let F = format_of operation in
-    let b = back F i (fixed_of operation) (word_of i) (fixed_clean operation a.last) a.fields refl in
+    let b = back F i (fixed_of operation) (word_of i) (fixed_clean operation) a.fields refl in
     let o : operation_of (word_of i) ≡ operation = reach operation (word_of i) a.last b.bits last 1 a.first (omega arith) in
     read_some (word_of i) operation o (λ z. omega (arith, a.first)) ∙ ap legal b.is
 

@@ -1,12 +1,14 @@
 -- Which word an instruction has, and which the encoder refuses.
-use Rattle.std.specs.Prelude.{ℕ, ◌+◌, ◌*◌, ◌%◌, ◌^◌, Bool, ◌&&◌, leb, eqb, ℤ, pos, neg_ℤ}
+use Rattle.std.specs.Prelude.{ℕ, ◌+◌, ◌*◌, ◌%◌, ◌^◌, Bool, ◌&&◌, leb, eqb, ℤ, pos, neg_ℤ, Result, Ok, Err}
 use Rattle.std.specs.Int.Signed.{le_z}
 use Rattle.word.specs.Field.{field}
 use Rattle.word.specs.Signed as Signed
 use Rattle.isa.specs.Listing.{Format, R, I, S, B, U, J, Shift, Whole, last, format_of, fixed_of}
 use Rattle.isa.specs.Reads.{choose}
 use Rattle.isa.specs.declared.Instruction.{Instruction}
-use Rattle.isa.specs.declared.Encoded.{Encoded}
+use Rattle.refusals.specs.Numbers.{number}
+use Rattle.refusals.specs.declared.Refusal.{Refusal}
+use Rattle.refusals.specs.declared.Refusal.TheVariants.{Encoding}
 
 abbrev pub minus : ℕ → ℤ
 minus n = neg_ℤ (pos n)
@@ -57,6 +59,11 @@ constant_part Whole c = 0
 unfoldable pub word_of : Instruction → ℕ
 word_of i = fixed_of i.operation + i.rd * 2 ^ 7 + i.rs1 * 2 ^ 15 + i.rs2 * 2 ^ 20 + constant_part (format_of i.operation) (Signed.word_of i.constant)
 
+-- the encoder's answer in numbers: a word and refusal 0, or word 0 and the refusal
+pub record Encoded : Type 0 where
+  pub word : ℕ
+  pub refusal : ℕ
+
 abbrev pub written : ℕ → Encoded
 written w = record { word = w; refusal = 0 }
 
@@ -66,3 +73,12 @@ refused = record { word = 0; refusal = 30 }
 
 unfoldable pub encoded_of : Instruction → Encoded
 encoded_of i = choose (accepted i) (written (word_of i)) refused
+
+-- the encoder's answer as these numbers
+abbrev pub encoded : Result ℕ Refusal → Encoded
+encoded (Ok word) = written word
+encoded (Err refusal) = record { word = 0; refusal = number refusal }
+
+-- a number as a field, which holds 8 bits
+abbrev pub byte : ℕ → Result ℕ Refusal
+byte n = choose (leb n 255) (Ok n) (Err Encoding)

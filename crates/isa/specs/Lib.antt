@@ -3,4 +3,3 @@ pub mod Listing
 pub mod Reads
 pub mod Encodes
 pub mod Statement
-pub mod Codes

@@ -1,10 +1,9 @@
 -- The manual's listing of RV32I without FENCE (volume I, chapter 24, "RV32/64G Instruction Set Listings"): a row for each operation, in its order.
 -- An operation's number is its place here.
 use Rattle.std.specs.Prelude.{List, [], ◌∷◌, ℕ, ◌+◌, ◌*◌, ◌^◌, get_or}
-
 -- R, I, S, B, U and J are the manual's formats. Shift: an I format whose constant is a shift amount, with bits 31–25 fixed. Whole: a word without fields.
-pub data Format : Type 0 where
-  R I S B U J Shift Whole : Format
+pub use Rattle.isa.specs.declared.Format.{Format}
+pub use Rattle.isa.specs.declared.Format.TheVariants.{R, I, S, B, U, J, Shift, Whole}
 
 -- an operation's format, and its fixed bits at their places with zeros where the format has fields
 pub record Row : Type 0 where

@@ -1,11 +1,9 @@
 -- What a word reads as.
-use Rattle.std.specs.Prelude.{ℕ, zero, suc, ◌+◌, ◌*◌, ◌^◌, Bool, true, false, eqb, ℤ, pos}
+use Rattle.std.specs.Prelude.{ℕ, zero, suc, ◌+◌, ◌*◌, ◌^◌, Bool, true, false, eqb, ℤ, pos, Option, Some, None}
 use Rattle.word.specs.Field.{field}
 use Rattle.word.specs.Signed.{extend}
 use Rattle.isa.specs.Listing.{Format, R, I, S, B, U, J, Shift, Whole, last, format_of, fixed_of}
 use Rattle.isa.specs.declared.Instruction.{Instruction}
-use Rattle.isa.specs.declared.Reading.{Reading}
-use Rattle.isa.specs.declared.Reading.TheVariants.{Legal, Illegal}
 
 abbrev pub choose : {A : Type 0} → Bool → A → A → A
 choose true a b = a
@@ -30,9 +28,9 @@ legal i = record { cause = 0; fields = i }
 abbrev pub illegal : Numbers
 illegal = record { cause = 1; fields = none }
 
-abbrev pub numbers_of : Reading → Numbers
-numbers_of (Legal i) = legal i
-numbers_of Illegal = illegal
+abbrev pub numbers_of : Option Instruction → Numbers
+numbers_of (Some i) = legal i
+numbers_of None = illegal
 
 -- the word with zeros in its format's fields
 unfoldable pub fixed_part : Format → ℕ → ℕ
@@ -52,6 +50,11 @@ operation_from (suc n) operation w = choose (eqb (fixed_part (format_of operatio
 
 unfoldable pub operation_of : ℕ → ℕ
 operation_of w = operation_from last 1 w
+
+-- an operation number, or none where it is 0
+abbrev pub found : ℕ → Option ℕ
+found zero = None
+found (suc n) = Some (suc n)
 
 -- the immediates as the manual draws them: the constant's bits, the highest first; a shift amount and a U constant are numbers from 0
 unfoldable pub constant_of : Format → ℕ → ℤ

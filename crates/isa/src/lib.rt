@@ -13,27 +13,28 @@ pub use encoder::{accepts, encode};
 pub use listing::LAST;
 pub use reader::read;
 
-// Operation numbers are 1 to 39 in the order of the manual's listing; a field that the operation lacks is 0.
-#[derive(Clone, Copy)]
+// The manual's formats. Shift: an I format whose constant is a shift amount, with bits 31–25 fixed. Whole: a word
+// without fields.
+#[derive(Clone, Copy, Debug, PartialEq, Eq)]
+pub enum Format {
+    R,
+    I,
+    S,
+    B,
+    U,
+    J,
+    Shift,
+    Whole,
+}
+
+// Operation numbers are 1 to 39 in the order of the manual's listing; a field that the operation lacks is 0. The
+// default is operation 0 with zero fields.
+#[derive(Clone, Copy, Debug, PartialEq, Eq, Default)]
 pub struct Instruction {
+    // a number and no enum: refusal 5 answers an operation that the encoder refuses, so a machine can hold one
     pub operation: u8,
     pub rd: u8,
     pub rs1: u8,
     pub rs2: u8,
     pub constant: i32,
-}
-
-// What a word reads as.
-#[derive(Clone, Copy)]
-pub enum Reading {
-    Legal(Instruction),
-    Illegal,
-}
-
-// A word and refusal 0, or word 0 and refusal 30.
-#[repr(C)]
-#[derive(Clone, Copy)]
-pub struct Encoded {
-    pub word: u32,
-    pub refusal: u32,
 }

@@ -1,10 +1,10 @@
 ghost use Rattle.std.specs.Prelude.{◌≡◌, ◌<◌};
-ghost use Rattle.isa.specs.Codes.{format_at};
 ghost use Rattle.isa.specs.Encodes as Encodes;
 
-use crate::{Instruction, listing};
+use crate::{Format, Instruction};
 
 // registers from 0 up to these limits, the constant from low to high and a multiple of step
+#[tactic(auto, unfolding(crate::specs::Encodes::within))]
 fn within(i: Instruction, rd: u8, rs1: u8, rs2: u8, low: i32, high: i32, step: u32) -> bool
     requires { 0 < step }
     ensures { result ≡ Encodes.within (Encodes.limits rd rs1 rs2 low high step) i }
@@ -15,21 +15,21 @@ fn within(i: Instruction, rd: u8, rs1: u8, rs2: u8, low: i32, high: i32, step: u
         & (i.rs2 <= rs2)
         & (low <= c)
         & (c <= high)
-        & (word::to_word(c) % step == 0)
+        & (c.cast_unsigned() % step == 0)
 }
 
 // whether the fields lie in the format's ranges. Inner: `encode` and refusal 5 use it.
-pub fn in_range(format: u8, i: Instruction) -> bool
-    ensures { result ≡ Encodes.within (Encodes.limits_of (format_at format)) i }
+pub fn in_range(format: Format, i: Instruction) -> bool
+    ensures { result ≡ Encodes.within (Encodes.limits_of format) i }
 {
     match format {
-        listing::R => within(i, 31, 31, 31, 0, 0, 1),
-        listing::I => within(i, 31, 31, 0, -2_048, 2_047, 1),
-        listing::S => within(i, 0, 31, 31, -2_048, 2_047, 1),
-        listing::B => within(i, 0, 31, 31, -4_096, 4_094, 2),
-        listing::U => within(i, 31, 0, 0, 0, 1_048_575, 1),
-        listing::J => within(i, 31, 0, 0, -1_048_576, 1_048_574, 2),
-        listing::SHIFT => within(i, 31, 31, 0, 0, 31, 1),
-        _ => within(i, 0, 0, 0, 0, 0, 1),
+        Format::R => within(i, 31, 31, 31, 0, 0, 1),
+        Format::I => within(i, 31, 31, 0, -2_048, 2_047, 1),
+        Format::S => within(i, 0, 31, 31, -2_048, 2_047, 1),
+        Format::B => within(i, 0, 31, 31, -4_096, 4_094, 2),
+        Format::U => within(i, 31, 0, 0, 0, 1_048_575, 1),
+        Format::J => within(i, 31, 0, 0, -1_048_576, 1_048_574, 2),
+        Format::Shift => within(i, 31, 31, 0, 0, 31, 1),
+        Format::Whole => within(i, 0, 0, 0, 0, 0, 1),
     }
 }

@@ -1,81 +1,64 @@
-// The manual's listing by operation number, as two numbers: the format's code and the fixed bits. Both are matches,
-// since a const table is built anew at each use.
-ghost use Rattle.std.specs.Prelude.{◌≡◌, ◌≤◌, get_or};
-ghost use Rattle.isa.specs.Codes.{codes, fixed_bits};
-ghost use Rattle.isa.specs.Listing.{last};
+// The manual's listing by operation number: the format and the fixed bits. Both are matches, since a const table is
+// built anew at each use.
+ghost use Rattle.std.specs.Prelude.{◌≡◌};
+ghost use Rattle.isa.specs.Listing.{format_of, fixed_of};
+
+use crate::Format;
 
 pub const LAST: u8 = 39;
 
-// the formats' codes
-pub const WHOLE: u8 = 0;
-
-pub const R: u8 = 1;
-
-pub const I: u8 = 2;
-
-pub const S: u8 = 3;
-
-pub const B: u8 = 4;
-
-pub const U: u8 = 5;
-
-pub const J: u8 = 6;
-
-pub const SHIFT: u8 = 7;
-
 // Inner: `read` and `encode` use it.
-pub fn format(operation: usize) -> u8
-    requires { operation ≤ last }
-    ensures { result ≡ get_or codes operation 0 }
+pub fn format(operation: u8) -> Format
+    ensures { result ≡ format_of operation }
 {
     match operation {
-        0 => WHOLE, // no operation
-        1 => U, // LUI
-        2 => U, // AUIPC
-        3 => J, // JAL
-        4 => I, // JALR
-        5 => B, // BEQ
-        6 => B, // BNE
-        7 => B, // BLT
-        8 => B, // BGE
-        9 => B, // BLTU
-        10 => B, // BGEU
-        11 => I, // LB
-        12 => I, // LH
-        13 => I, // LW
-        14 => I, // LBU
-        15 => I, // LHU
-        16 => S, // SB
-        17 => S, // SH
-        18 => S, // SW
-        19 => I, // ADDI
-        20 => I, // SLTI
-        21 => I, // SLTIU
-        22 => I, // XORI
-        23 => I, // ORI
-        24 => I, // ANDI
-        25 => SHIFT, // SLLI
-        26 => SHIFT, // SRLI
-        27 => SHIFT, // SRAI
-        28 => R, // ADD
-        29 => R, // SUB
-        30 => R, // SLL
-        31 => R, // SLT
-        32 => R, // SLTU
-        33 => R, // XOR
-        34 => R, // SRL
-        35 => R, // SRA
-        36 => R, // OR
-        37 => R, // AND
-        38 => WHOLE, // ECALL
-        _ => WHOLE, // EBREAK
+        0 => Format::Whole, // no operation
+        1 => Format::U, // LUI
+        2 => Format::U, // AUIPC
+        3 => Format::J, // JAL
+        4 => Format::I, // JALR
+        5 => Format::B, // BEQ
+        6 => Format::B, // BNE
+        7 => Format::B, // BLT
+        8 => Format::B, // BGE
+        9 => Format::B, // BLTU
+        10 => Format::B, // BGEU
+        11 => Format::I, // LB
+        12 => Format::I, // LH
+        13 => Format::I, // LW
+        14 => Format::I, // LBU
+        15 => Format::I, // LHU
+        16 => Format::S, // SB
+        17 => Format::S, // SH
+        18 => Format::S, // SW
+        19 => Format::I, // ADDI
+        20 => Format::I, // SLTI
+        21 => Format::I, // SLTIU
+        22 => Format::I, // XORI
+        23 => Format::I, // ORI
+        24 => Format::I, // ANDI
+        25 => Format::Shift, // SLLI
+        26 => Format::Shift, // SRLI
+        27 => Format::Shift, // SRAI
+        28 => Format::R, // ADD
+        29 => Format::R, // SUB
+        30 => Format::R, // SLL
+        31 => Format::R, // SLT
+        32 => Format::R, // SLTU
+        33 => Format::R, // XOR
+        34 => Format::R, // SRL
+        35 => Format::R, // SRA
+        36 => Format::R, // OR
+        37 => Format::R, // AND
+        38 => Format::Whole, // ECALL
+        39 => Format::Whole, // EBREAK
+        _ => Format::Whole, // nor is a number above the last
     }
 }
 
 // Inner: `read` and `encode` use it.
-pub fn fixed(operation: usize) -> u32
-    requires { operation ≤ last }
-    ensures { result ≡ get_or fixed_bits operation 0 }
+pub fn fixed(operation: u8) -> u32
+    ensures { result ≡ fixed_of operation }
 {
     match operation {
         0 => 0x0, // no operation
@@ -117,6 +100,7 @@ pub fn fixed(operation: usize) -> u32
         36 => 0x6033, // OR
         37 => 0x7033, // AND
         38 => 0x73, // ECALL
-        _ => 0x10_0073, // EBREAK
+        39 => 0x10_0073, // EBREAK
+        _ => 0x0, // nor is a number above the last
     }
 }

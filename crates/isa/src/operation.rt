@@ -1,60 +1,35 @@
-ghost use Rattle.std.specs.Prelude.{◌≡◌, ◌+◌, ◌*◌, ◌^◌, ◌≤◌};
-ghost use Rattle.word.specs.Field as Field;
-ghost use Rattle.isa.specs.Codes.{format_at};
+ghost use Rattle.std.specs.Prelude.{◌≡◌, ◌≤◌, IfSome};
 ghost use Rattle.isa.specs.Listing.{last};
-ghost use Rattle.isa.specs.Reads.{fixed_part, operation_of};
+ghost use Rattle.isa.specs.Reads.{fixed_part, found, operation_of};
 
-use crate::listing;
-
-fn opcode(word: u32) -> u32
-    ensures { result ≡ Field.field word 0 7 }
-{
-    word::field(word, 0, 7)
-}
-
-// bits 14–12 and the opcode
-fn short_part(word: u32) -> u32
-    ensures { result ≡ Field.field word 12 3 * 2 ^ 12 + Field.field word 0 7 }
-{
-    word::field(word, 12, 3) * 0x1000 + word::field(word, 0, 7)
-}
-
-// bits 31–25, bits 14–12 and the opcode
-fn long_part(word: u32) -> u32
-    ensures { result ≡ Field.field word 25 7 * 2 ^ 25 + Field.field word 12 3 * 2 ^ 12 + Field.field word 0 7 }
-{
-    word::field(word, 25, 7) * 0x200_0000
-        + word::field(word, 12, 3) * 0x1000
-        + word::field(word, 0, 7)
-}
+use crate::{Format, listing};
 
 // the word with zeros in its format's fields
-fn fixed_part(format: u8, word: u32) -> u32
-    ensures { result ≡ fixed_part (format_at format) word }
+#[tactic(auto, unfolding(crate::specs::Reads::fixed_part))]
+fn fixed_part(format: Format, word: u32) -> u32
+    ensures { result ≡ fixed_part format word }
 {
+    let opcode = word::field(word, 0, 7);
+    let middle = word::field(word, 12, 3) * 0x1000;
+    let upper = word::field(word, 25, 7) * 0x200_0000;
     match format {
-        listing::R => long_part(word),
-        listing::I => short_part(word),
-        listing::S => short_part(word),
-        listing::B => short_part(word),
-        listing::U => opcode(word),
-        listing::J => opcode(word),
-        listing::SHIFT => long_part(word),
-        _ => word,
+        Format::R | Format::Shift => upper + middle + opcode,
+        Format::I | Format::S | Format::B => middle + opcode,
+        Format::U | Format::J => opcode,
+        Format::Whole => word,
     }
 }
 
-// the operation whose fixed bits the word has, or 0. Inner: `read` uses it.
-pub fn find(word: u32) -> u8
-    ensures { (result ≡ operation_of word) × (result ≤ last) }
+// the operation whose fixed bits the word has. Inner: `read` uses it.
+#[tactic(auto, using(crate::proofs::Turns::first, crate::proofs::Turns::hit, crate::proofs::Turns::miss, crate::proofs::Turns::ended))]
+pub fn find(word: u32) -> Option<u8>
+    ensures operation { result ≡ found (operation_of word) }
+    ensures listed { IfSome result (λ n. n ≤ last) }
 {
-    let mut operation: u8 = 1;
-    while operation <= listing::LAST {
-        let at = operation as usize;
-        if fixed_part(listing::format(at), word) == listing::fixed(at) {
-            return operation;
+    for operation in 1..=listing::LAST {
+        if fixed_part(listing::format(operation), word) == listing::fixed(operation) {
+            return Some(operation);
         }
-        operation += 1;
     }
-    0
+    None
 }

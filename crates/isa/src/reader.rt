@@ -1,15 +1,13 @@
 ghost use Rattle.std.specs.Prelude.{◌≡◌};
 ghost use Rattle.isa.specs.Reads.{numbers_of, read_of};
 
-use crate::{Reading, fields, listing, operation};
+use crate::{Instruction, fields, listing, operation};
 
-// What a word reads as.
-pub fn read(word: u32) -> Reading
+// The instruction in a word, if it has one.
+#[tactic(auto, using(crate::proofs::ReadLaws::found_none, crate::proofs::ReadLaws::found_some, crate::proofs::ReadLaws::read_none, crate::proofs::ReadLaws::read_some))]
+pub fn read(word: u32) -> Option<Instruction>
     ensures { numbers_of result ≡ read_of word }
 {
-    let found = operation::find(word);
-    if found == 0 {
-        return Reading::Illegal;
-    }
-    Reading::Legal(fields::fields(listing::format(found as usize), found, word))
+    let operation = operation::find(word)?;
+    Some(fields::fields(listing::format(operation), operation, word))
 }

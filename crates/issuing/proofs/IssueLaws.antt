@@ -1,14 +1,13 @@
 -- Issue, put together from its parts.
-use Prim.Native.Nat.{ℕ, ◌+◌, ◌<◌}
-use mathlib.Core.Path.{◌≡◌, refl, ap}
-use mathlib.Core.Bool.{true, false, not, ◌&&◌, ◌||◌}
+use Prim.Native.Nat.{ℕ, zero, suc, ◌<◌}
+use mathlib.Core.Path.{◌≡◌, refl, ap, ◌∙◌}
+use mathlib.Core.Bool.{Bool, true, false, not, ◌&&◌, ◌||◌}
 use mathlib.Core.List.{List, [], ◌∷◌}
-use native.Mathlib.Numerals.{add-one}
 use borrow.Author.Tests.{leb-false}
-use lib.ListN.{get_or}
-use Rattle.execution.specs.Roles.{loads, stores}
-use Rattle.reference.specs.Step.{when, first}
-use Rattle.tables.specs.Operand.{is_ready}
+use lib.ListN.{get_or, take}
+use Rattle.std.specs.List.{list_any}
+use Rattle.execution.specs.Roles.{loads, stores, stores_by}
+use Rattle.reference.specs.Step.{when}
 use Rattle.tables.specs.Entry.{empty_entry, is_waiting}
 use Rattle.tables.specs.declared.Entry.{Entry}
 use Rattle.renaming.specs.declared.Core.{Core}
@@ -17,50 +16,28 @@ use Rattle.renaming.specs.Changes.{entry_at}
 use Rattle.issuing.specs.Issue.{store_below, unready, issue_refusal, issued, issue_within, issue_of}
 use Rattle.renaming.proofs.RefusalLaws.{passed, own_next}
 
-pub below_none : (entries : List Entry) → false ≡ store_below 0 entries
+or_exchange : (a b c : Bool) → a || (b || c) ≡ b || (a || c)
+or_exchange false b c = refl
+or_exchange true true c = refl
+or_exchange true false c = refl
+
+abbrev is_stored : Entry → Bool
+is_stored e = stores e.instruction
+
+-- the youngest of n + 1 entries, or one of those before it; past the end stands no store
+youngest_or : (n : ℕ) (entries : List Entry) → list_any is_stored (take (suc n) entries) ≡ is_stored (get_or entries n empty_entry) || list_any is_stored (take n entries)
+unfolding stores_by
+youngest_or zero [] = refl
+youngest_or (suc n) [] = refl
+youngest_or zero (e ∷ entries) = refl
+youngest_or (suc n) (e ∷ entries) =
+    ap (λ (b : Bool). is_stored e || b) (youngest_or n entries)
+    ∙ or_exchange (is_stored e) (is_stored (get_or entries n empty_entry)) (list_any is_stored (take n entries))
+
+pub store_among : (n : ℕ) (entries : List Entry) → list_any (λ (e : Entry). stores e.instruction) (take n entries) ≡ store_below n entries
 unfolding store_below
-below_none entries = refl
-
-pub below_more : (k : ℕ) (entries : List Entry) → stores (get_or entries k empty_entry).instruction || store_below k entries ≡ store_below (k + 1) entries
-unfolding store_below
-below_more k entries = rw add-one
-
--- the refusals, by the tests
-module _ (position : ℕ) (m : Core) where
-  abbrev e : Entry
-  e = entry_at m position
-
-  pub refused_halted : halted m ≡ true → 10 ≡ issue_refusal position m
-  unfolding issue_refusal first
-  refused_halted h = rw h
-
-  module _ (h : halted m ≡ false) where
-    pub refused_place : no_entry m position ≡ true → 12 ≡ issue_refusal position m
-    unfolding issue_refusal first
-    refused_place n = rw (h, n)
-
-    module _ (n : no_entry m position ≡ false) where
-      pub refused_state : is_waiting e.state ≡ false → 13 ≡ issue_refusal position m
-      unfolding issue_refusal first
-      refused_state s = rw (h, n, s)
-
-      module _ (s : is_waiting e.state ≡ true) where
-        pub refused_operand : is_ready e.left && is_ready e.right ≡ false → 14 ≡ issue_refusal position m
-        unfolding issue_refusal first
-        refused_operand r = rw (h, n, s, r)
-
-        module _ (r : is_ready e.left && is_ready e.right ≡ true) where
-          pub refused_store : loads e.instruction ≡ true → store_below position m.entries ≡ true → 15 ≡ issue_refusal position m
-          unfolding issue_refusal first
-          refused_store l b = rw (h, n, s, r, l, b)
-
-          pub no_load : loads e.instruction ≡ false → 0 ≡ issue_refusal position m
-          unfolding issue_refusal first
-          no_load l = rw (h, n, s, r, l)
-
-          pub no_store : loads e.instruction ≡ true → store_below position m.entries ≡ false → 0 ≡ issue_refusal position m
-          unfolding issue_refusal first
-          no_store l b = rw (h, n, s, r, l, b)
+store_among zero entries = refl
+store_among (suc n) entries = youngest_or n entries ∙ ap (λ (b : Bool). is_stored (get_or entries n empty_entry) || b) (store_among n entries)
 
 -- an issue that is not refused has an entry
 pub has_entry : (position : ℕ) (m : Core) → issue_refusal position m ≡ 0 → position < m.count

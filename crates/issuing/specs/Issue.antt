@@ -9,7 +9,7 @@ use Rattle.tables.specs.declared.Entry.{Entry}
 use Rattle.renaming.specs.Call.{halted, no_entry, lent_refusal, in_turn, answered}
 use Rattle.renaming.specs.Changes.{entry_at, place}
 use Rattle.renaming.specs.declared.Core.{Core}
-use Rattle.renaming.specs.declared.Answer.{Answer}
+use Rattle.renaming.specs.Answer.{Answer}
 
 -- one of the oldest n entries is a store
 unfoldable pub store_below : ℕ → List Entry → Bool

@@ -1,96 +1,75 @@
 // Issue: an entry reads its operands.
 #![tactic(auto)]
 
-ghost use Rattle.std.specs.Prelude.{◌≡◌, true, ◌≤◌, ◌<◌, length};
-ghost use Rattle.isa.specs.Listing.{last};
-ghost use Rattle.renaming.specs.Range.{machine_in_range};
+ghost use Rattle.std.specs.Prelude.{◌≡◌, ◌≤◌, ◌<◌};
+ghost use Rattle.refusals.specs.Numbers.{number_of};
+ghost use Rattle.ranges.specs.Sizes.{most_entries};
+ghost use Rattle.renaming.specs.Answer.{answer};
 ghost use Rattle.issuing.specs.Issue as Issue;
-ghost use Rattle.tables.specs.Table.{places};
 
 use execution::roles;
-use renaming::{Answer, Core};
-use tables::{Entry, PLACES, entries, operands};
+use refusals::Refusal;
+use renaming::Core;
+use tables::State;
 
 // one of the oldest n entries is a store
-fn store_below(core: Core, n: usize) -> bool
-    requires { (n ≤ core.count) × (machine_in_range core ≡ true) }
-    ensures { result ≡ Issue.store_below n core.entries }
+fn store_below(core: &Core, n: usize) -> bool
+    requires { n ≤ most_entries }
+    ensures { result ≡ Issue.store_below n core.now.entries }
 {
-    let mut found = false;
-    let mut k: usize = 0;
-    while k < n {
-        let e = core.entries[k];
-        let i = e.instruction;
-        found = roles::is_store(i) | found;
-        k += 1;
-    }
-    found
+    core.entries[..n]
+        .iter()
+        .any(|e| roles::is_store(e.instruction))
 }
 
-fn issue_refusal(core: Core, position: usize) -> u8
-    requires { machine_in_range core ≡ true }
-    ensures { result ≡ Issue.issue_refusal position core }
+// 10 halted; 12 no entry there; 13 entry not waiting; 14 operand not ready; 15 load with an older store in the window.
+// Issue, complete and commit begin alike: one function over the state would be no plainer, since each has its own list.
+#[tactic(auto, unfolding(crate::specs::Issue::issue_refusal, reference::specs::Step::first))]
+fn check(core: &Core, position: usize) -> Result<(), Refusal>
+    requires { core.now.count ≤ most_entries }
+    ensures { number_of result ≡ Issue.issue_refusal position core.now }
 {
-    let halt = core.halt;
-    if halt.cause != 0 {
-        return 10;
+    if core.halt.cause != 0 {
+        return Err(Refusal::Halted);
     }
     if core.count as usize <= position {
-        return 12;
+        return Err(Refusal::NoEntry);
     }
-    let e = core.entries[position];
-    if !entries::is_waiting(e) {
-        return 13;
+    let e = &core.entries[position];
+    if e.state != State::Waits {
+        return Err(Refusal::WrongState);
     }
-    if !entries::is_ready(e) {
-        return 14;
+    if !e.is_ready() {
+        return Err(Refusal::OperandNotReady);
     }
-    let i = e.instruction;
-    if !roles::is_load(i) {
-        return 0;
+    if roles::is_load(e.instruction) && store_below(core, position) {
+        return Err(Refusal::OlderStore);
     }
-    if store_below(core, position) {
-        return 15;
-    }
-    0
+    Ok(())
 }
 
-// the entry with the values that it reads. Inner: this crate and replay's loop call it.
-pub fn read(values: &[u32; PLACES], data: &[u8], e: Entry) -> Entry
-    requires { (e.instruction.operation ≤ last) × (length values.now ≡ places) }
-    ensures { result ≡ Issue.read_entry values.now «data».now e }
+// the entry reads its operands, and a load its data
+#[tactic(auto, unfolding(crate::specs::Issue::issued))]
+fn issue(core: &mut Core, data: &[u8], position: usize)
+    requires few { core.old.count ≤ most_entries }
+    requires there { position < core.old.count }
+    ensures { core.new ≡ Issue.issued «data».now position core.old }
 {
-    let i = e.instruction;
-    let left = e.left;
-    let right = e.right;
-    let first = operands::value_of(values, left);
-    let operand = operands::value_of(values, right);
-    let second = execution::second_value(i, data, first, operand);
-    entries::issued(e, first, second)
-}
-
-fn issued(mut core: Core, data: &[u8], position: usize) -> Core
-    requires { (machine_in_range core ≡ true) × (position < core.count) }
-    ensures { result ≡ Issue.issued «data».now position core }
-{
-    let e = core.entries[position];
-    let filled = read(&core.values, data, e);
-    core.entries[position] = filled;
-    core
+    let mut e = core.entries[position];
+    let first = e.left.value_in(&core.values);
+    let operand = e.right.value_in(&core.values);
+    let second = execution::second_value(e.instruction, data, first, operand);
+    e.issue(first, second);
+    core.entries[position] = e;
 }
 
 // Issue, where 5 and 6 do not apply. Inner: `window` uses it.
-pub fn issue_within(core: Core, data: &[u8], position: usize) -> Answer
-    requires { machine_in_range core ≡ true }
-    ensures { result ≡ Issue.issue_within «data».now position core }
+#[tactic(auto, unfolding(crate::specs::Issue::issue_within), using(refusals::proofs::Laws::number_some, refusals::proofs::Laws::handed_on, renaming::proofs::RefusalLaws::answered_refused, renaming::proofs::RefusalLaws::answered_next, crate::proofs::IssueLaws::has_entry))]
+pub fn issue_within(core: &mut Core, data: &[u8], position: usize) -> Result<(), Refusal>
+    requires { core.old.count ≤ most_entries }
+    ensures { answer core.new result ≡ Issue.issue_within «data».now position core.old }
 {
-    let number = issue_refusal(core, position);
-    if number != 0 {
-        return Answer { core, number };
-    }
-    let next = issued(core, data, position);
-    Answer {
-        core: next,
-        number: 0,
-    }
+    check(core, position)?;
+    issue(core, data, position);
+    Ok(())
 }

@@ -1,4 +1,3 @@
 -- Laws of the ranges.
 pub mod SizeLaws
 pub mod TableLaws
-pub mod EntryLaws

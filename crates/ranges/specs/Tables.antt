@@ -1,6 +1,8 @@
 -- What refusal 5 looks at in the tables.
 use Rattle.std.specs.Prelude.{ℕ, zero, suc, Bool, true, ◌&&◌, List, leb, get_or}
 use Rattle.execution.specs.declared.Stop.{Stop}
+use Rattle.tables.specs.declared.FreeList.{FreeList}
+use Rattle.tables.specs.declared.GeneralMap.{GeneralMap}
 use Rattle.ranges.specs.Sizes.{last_logical, names_of}
 use Rattle.ranges.specs.declared.Setup.{Setup}
 
@@ -14,13 +16,13 @@ abbrev pub within : ℕ → ℕ → ℕ → List ℕ → Bool
 within limit from count table = every_from (λ (n : ℕ). leb n limit) 0 from count table
 
 -- heads and links of the pools, the physical map, the general map, the halt's cause
-unfoldable pub tables_within : Setup → ℕ → List ℕ → ℕ → List ℕ → List ℕ → List ℕ → List ℕ → Stop → Bool
-tables_within s registerhead registerlink namehead namelink physical mapname mapregister halt =
-    leb registerhead s.registers
-    && within s.registers 1 s.registers registerlink
-    && leb namehead (names_of s.window)
-    && within (names_of s.window) 1 (names_of s.window) namelink
+unfoldable pub tables_within : Setup → FreeList → FreeList → List ℕ → GeneralMap → Stop → Bool
+tables_within s free_registers free_names physical map halt =
+    leb free_registers.head s.registers
+    && within s.registers 1 s.registers free_registers.link
+    && leb free_names.head (names_of s.window)
+    && within (names_of s.window) 1 (names_of s.window) free_names.link
     && within s.registers 1 (names_of s.window) physical
-    && within (names_of s.window) 1 last_logical mapname
-    && within s.registers 1 last_logical mapregister
+    && within (names_of s.window) 1 last_logical map.names
+    && within s.registers 1 last_logical map.registers
     && leb halt.cause 7

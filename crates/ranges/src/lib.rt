@@ -6,7 +6,7 @@ pub mod sizes;
 pub mod table;
 
 // Window W, registers N, and the lengths of program and data.
-#[derive(Clone, Copy)]
+#[derive(Clone, Copy, Debug, PartialEq, Eq, Default)]
 pub struct Setup {
     pub window: u8,
     pub registers: u8,

@@ -1,9 +1,11 @@
 // The sizes of a machine: W, N and the lengths of program and data.
 ghost use Rattle.std.specs.Prelude.{◌≡◌};
+ghost use Rattle.refusals.specs.Numbers.{number_of};
 ghost use Rattle.ranges.specs.Sizes.{setup_of, window_fits, registers_fit, set_up_refusal, setup_in_range};
 
 use crate::Setup;
 use reference::lengths;
+use refusals::Refusal;
 
 // the entries of the largest window
 pub const MOST_ENTRIES: usize = 64;
@@ -26,17 +28,18 @@ fn registers_fit(registers: u32) -> bool
     (32 <= registers) & (registers <= MOST_REGISTERS as u32)
 }
 
-// refusals 1 to 4, or 0. Inner: set-up and replay use it.
-pub fn refusal(window: u32, registers: u32, program: usize, bytes: usize) -> u8
-    ensures { result ≡ set_up_refusal (setup_of window registers program bytes) }
+// Refusals 1 to 4. Inner: set-up and replay use it.
+#[tactic(auto, unfolding(crate::specs::Sizes::set_up_refusal, reference::specs::Step::lengths_refusal, reference::specs::Step::first))]
+pub fn check(window: u32, registers: u32, program: usize, bytes: usize) -> Result<(), Refusal>
+    ensures { number_of result ≡ set_up_refusal (setup_of window registers program bytes) }
 {
     if !window_fits(window) {
-        return 1;
+        return Err(Refusal::WindowSize);
     }
     if !registers_fit(registers) {
-        return 2;
+        return Err(Refusal::RegisterCount);
     }
-    lengths::refusal_of(program, bytes)
+    lengths::check(program, bytes)
 }
 
 // Inner: refusal 5 uses it.

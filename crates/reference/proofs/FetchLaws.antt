@@ -1,8 +1,9 @@
 -- What a fetch says of the program.
 use Prim.Native.Nat.{ℕ, zero, suc}
-use mathlib.Core.Path.{◌≡◌, refl, sym, ap, subst}
+use mathlib.Core.Path.{◌≡◌, refl, sym, ap, subst, ◌∙◌}
 use mathlib.Core.Bool.{Bool, true, false, ◌||◌}
 use mathlib.Core.List.{List}
+use Rattle.std.specs.Prelude.{Result, Ok, Err}
 use borrow.Author.Tests.{eqb-true}
 use lib.Dec.{eqb}
 use Rattle.laws.proofs.Bools.{impossible}
@@ -12,15 +13,14 @@ use Rattle.isa.proofs.Accepted.{Accepted}
 use Rattle.isa.proofs.Ranges.{read_accepted}
 use Rattle.isa.proofs.ReadLaws.{Small, legal_small}
 use Rattle.reference.specs.Fetch.{FetchNumbers, no_instruction, fetch_numbers, of_reading, has_word, word_at, outside, fetch_at}
-use Rattle.reference.specs.declared.Fetching.{Fetching}
-use Rattle.reference.specs.declared.Fetching.TheVariants.{Found, Stopped}
+use Rattle.execution.specs.declared.Stop.{Stop}
 
 -- document 01's numbers settle the answer
-pub fetch_injective : (a b : Fetching) → fetch_numbers a ≡ fetch_numbers b → a ≡ b
-fetch_injective (Found i) (Found j) e = ap (λ (n : FetchNumbers). Found n.fields) e
-fetch_injective (Found i) (Stopped t) e = impossible (sym (ap (λ (n : FetchNumbers). n.found) e))
-fetch_injective (Stopped s) (Found j) e = impossible (ap (λ (n : FetchNumbers). n.found) e)
-fetch_injective (Stopped s) (Stopped t) e = ap (λ (n : FetchNumbers). Stopped n.stop) e
+pub fetch_injective : (a b : Result Instruction Stop) → fetch_numbers a ≡ fetch_numbers b → a ≡ b
+fetch_injective (Ok i) (Ok j) e = ap (λ (n : FetchNumbers). Ok n.fields) e
+fetch_injective (Ok i) (Err t) e = impossible (sym (ap (λ (n : FetchNumbers). n.found) e))
+fetch_injective (Err s) (Ok j) e = impossible (ap (λ (n : FetchNumbers). n.found) e)
+fetch_injective (Err s) (Err t) e = ap (λ (n : FetchNumbers). Err n.stop) e
 
 module _ (program : List ℕ) (address : ℕ) where
   pub fetch_outside : has_word program address ≡ false → no_instruction outside ≡ fetch_at program address
@@ -31,7 +31,7 @@ module _ (program : List ℕ) (address : ℕ) where
   unfolding fetch_at
   fetch_illegal a r = rw (a, r)
 
-  pub fetch_legal : has_word program address ≡ true → (i : Instruction) → read_of (word_at program address) ≡ legal i → fetch_numbers (Found i) ≡ fetch_at program address
+  pub fetch_legal : has_word program address ≡ true → (i : Instruction) → read_of (word_at program address) ≡ legal i → fetch_numbers (Ok i) ≡ fetch_at program address
   unfolding fetch_at
   fetch_legal a i r = rw (a, r)
 
@@ -47,7 +47,7 @@ pub fetched_small : (program : List ℕ) (address : ℕ) → (fetch_at program a
 unfolding fetch_at
 fetched_small program address e = small_at (has_word program address) (word_at program address) e
 
-pub found_small : (program : List ℕ) (address : ℕ) (i : Instruction) → fetch_numbers (Found i) ≡ fetch_at program address → Small i
+pub found_small : (program : List ℕ) (address : ℕ) (i : Instruction) → fetch_numbers (Ok i) ≡ fetch_at program address → Small i
 found_small program address i e =
     subst (λ (n : FetchNumbers). n.found ≡ true → Small n.fields) (sym e) (fetched_small program address) refl
 
@@ -77,3 +77,9 @@ missing_at false w e = record { fields = refl; cause = refl }
 pub fetched_missing : (program : List ℕ) (address : ℕ) → (fetch_at program address).found ≡ false → Missing (fetch_at program address)
 unfolding fetch_at
 fetched_missing program address e = missing_at (has_word program address) (word_at program address) e
+
+-- a fetch that stops has a cause
+pub stopped_some : (program : List ℕ) (address : ℕ) (why : Stop) → no_instruction why ≡ fetch_at program address → why.cause ≡ 0 → ⊥
+stopped_some program address why e z =
+    let m : Missing (no_instruction why) = subst Missing (sym e) (fetched_missing program address (sym (ap (λ (n : FetchNumbers). n.found) e))) in
+    impossible (sym (ap (λ (c : ℕ). eqb c 1 || eqb c 4) z) ∙ m.cause)

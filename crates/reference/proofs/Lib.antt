@@ -1,5 +1,4 @@
 -- Laws of the in-order step and run.
-pub mod LengthLaws
 pub mod FetchLaws
 pub mod StepLaws
 pub mod RunLaws

@@ -1,5 +1,5 @@
 -- A run, one step after the other.
-use Prim.Native.Nat.{ℕ, zero, suc, ◌+◌, ◌-◌, ◌≤◌, ◌<◌}
+use Prim.Native.Nat.{ℕ, zero, suc, ◌+◌, ◌-◌, ◌<◌}
 use mathlib.Core.Path.{◌≡◌, refl, sym, ap, ◌∙◌}
 use mathlib.Core.Bool.{Bool, true, false}
 use mathlib.Core.List.{List}
@@ -13,6 +13,10 @@ use Rattle.reference.specs.Step.{State, Step, step_of, length_refusal}
 use Rattle.reference.specs.Run.{Run, ended, after, run_of, run_answer, ran_of}
 use Rattle.reference.specs.Statement.{continued}
 use Rattle.execution.specs.declared.Stop.{Stop}
+use Rattle.refusals.specs.Numbers.{number}
+use Rattle.refusals.specs.declared.Refusal.{Refusal}
+use Rattle.reference.proofs.StepLaws.{step_kept}
+use Rattle.refusals.proofs.Laws.{number_some}
 
 after_after : (k m : ℕ) (r : Run) → after (k + m) r ≡ after k (after m r)
 after_after k m r = ap (λ (n : ℕ). record { state = r.state; steps = n; stop = r.stop }) (add_assoc k m r.steps)
@@ -39,26 +43,29 @@ module _ (n k : ℕ) (program : List ℕ) (s : State) where
       let m : n - k ≡ suc (n - (k + 1)) = omega arith in
       after_after k 1 (run_of (n - (k + 1)) program r.state) ∙ ap (after k) (sym (run_step (n - (k + 1)) program s r e h) ∙ ap (λ (x : ℕ). run_of x program s) (sym m))
 
-  pub stops_there : k < n → (r : Step) → step_of program s ≡ r → (r.stop.cause ≡ 0 → ⊥) → after k (run_of (n - k) program s) ≡ record { state = s; steps = k; stop = r.stop }
+  pub stops_there : k < n → (r : Step) → step_of program s ≡ r → (r.stop.cause ≡ 0 → ⊥) → after k (run_of (n - k) program s) ≡ record { state = r.state; steps = k; stop = r.stop }
   stops_there l r e h =
       let m : n - k ≡ suc (n - (k + 1)) = omega arith in
+      let kept : s ≡ r.state = sym (step_kept program s (λ z. h (sym (ap (λ (x : Step). x.stop.cause) e) ∙ z))) ∙ ap (λ (x : Step). x.state) e in
       ap (after k) (ap (λ (x : ℕ). run_of x program s) m ∙ run_stop (n - (k + 1)) program s r e h) ∙ after_ended k s r.stop
+      ∙ ap (λ (x : State). record { state = x; steps = k; stop = r.stop }) kept
 
-  pub is_over : n ≤ k → after k (run_of (n - k) program s) ≡ record { state = s; steps = k; stop = stop 0 }
+  pub is_over : k ≡ n → after k (run_of (n - k) program s) ≡ record { state = s; steps = n; stop = stop 0 }
   unfolding run_of
-  is_over l =
+  is_over e =
       let m : n - k ≡ 0 = omega arith in
-      ap (λ (x : ℕ). after k (run_of x program s)) m ∙ after_ended k s (stop 0)
+      ap (λ (x : ℕ). after k (run_of x program s)) m ∙ after_ended k s (stop 0) ∙ ap (λ (x : ℕ). record { state = s; steps = x; stop = stop 0 }) e
 
 -- the exported run, by the refusal
-module _ (n : ℕ) (program : List ℕ) (s : State) (refusal : ℕ) (e : refusal ≡ length_refusal program s.memory) where
-  pub run_refused : (refusal ≡ 0 → ⊥) → ran_of n program s ≡ run_answer (ended s (stop 0)) refusal
+module _ (n : ℕ) (program : List ℕ) (s : State) where
+  pub run_refused : (refusal : Refusal) → number refusal ≡ length_refusal program s.memory → ran_of n program s ≡ run_answer (ended s (stop 0)) (number refusal)
   unfolding ran_of
-  run_refused h = rw (ne_eqb (length_refusal program s.memory) 0 (λ z. h (e ∙ z))) (ap (run_answer (ended s (stop 0))) (sym e))
+  run_refused refusal e =
+      rw (ne_eqb (length_refusal program s.memory) 0 (λ z. number_some refusal (e ∙ z))) (ap (run_answer (ended s (stop 0))) (sym e))
 
-  pub run_accepted : refusal ≡ 0 → ran_of n program s ≡ run_answer (run_of n program s) 0
+  pub run_accepted : 0 ≡ length_refusal program s.memory → ran_of n program s ≡ run_answer (run_of n program s) 0
   unfolding ran_of
-  run_accepted h = rw (eq-eqb (length_refusal program s.memory) 0 (sym e ∙ h))
+  run_accepted e = rw (eq-eqb (length_refusal program s.memory) 0 (sym e))
 
 -- n + m steps are n steps, then m
 continued_after : (m k : ℕ) (program : List ℕ) (r : Run) → continued m program (after k r) ≡ after k (continued m program r)
@@ -98,8 +105,3 @@ module _ (m : ℕ) (program : List ℕ) where
   composed (suc n) s =
       ap (λ (x : ℕ). run_of x program s) (suc-add n m)
       ∙ composed_at n s (eqb (step_of program s).stop.cause 0) refl (composed n (step_of program s).state)
-
--- what the exported run hands back
-pub answer_of : (r : Run) (s : State) (k : ℕ) (why : Stop) (registers memory : List ℕ) → r ≡ record { state = s; steps = k; stop = why } → s.registers ≡ registers → s.memory ≡ memory
-    → run_answer r 0 ≡ record { answer = record { registers = registers; address = s.address; steps = k; stop = why; refusal = 0 }; memory = memory }
-answer_of r s k why registers memory e p q = ap (λ (x : Run). run_answer x 0) e ∙ rw (p, q)

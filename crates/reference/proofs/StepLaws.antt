@@ -1,6 +1,6 @@
 -- What a step comes to, from what was found on the way.
 use Prim.Native.Nat.{ℕ, zero, suc}
-use mathlib.Core.Path.{◌≡◌, refl, sym, ap, subst, ◌∙◌}
+use mathlib.Core.Path.{◌≡◌, refl, sym, ap, ◌∙◌}
 use mathlib.Core.Bool.{Bool, true, false}
 use mathlib.Core.List.{List}
 use native.Mathlib.Omega.{arith}
@@ -10,70 +10,73 @@ use lib.ListN.{length, get_or, set, length-set}
 use lib.Seq.{get_or-set_other}
 use Rattle.isa.specs.Reads.{choose}
 use Rattle.isa.specs.declared.Instruction.{Instruction}
-use Rattle.execution.specs.Memory.{second_value, stored}
-use Rattle.execution.specs.Execute.{stop, executed}
+use Rattle.word.specs.Arithmetic.{sum}
+use Rattle.word.specs.Bytes.{byte_of}
+use Rattle.word.specs.Signed.{word_of}
+use Rattle.execution.specs.declared.Action.{Action}
+use Rattle.execution.specs.Actions.{action_of}
+use Rattle.execution.specs.Memory.{second_by, stored_by, stored}
+use Rattle.execution.specs.Execute.{stop, executed_by, executed}
 use Rattle.reference.specs.Fetch.{FetchNumbers, fetch_numbers, fetch_at}
 use Rattle.reference.specs.Step.{State, Step, reached, first_source, second_source, destination, read_register, write_register, stopped_at, settled, first_of, second_of, step_with, step_fetched, step_of, length_refusal, step_answer, stepped_of}
 use Rattle.execution.specs.declared.Stop.{Stop}
 use Rattle.execution.specs.declared.Outcome.{Outcome}
-use Rattle.reference.specs.declared.Fetching.TheVariants.{Found, Stopped}
-use Rattle.execution.proofs.OutcomeLaws.{executed_proper}
+use Rattle.std.specs.Prelude.{Ok, Err}
+use Rattle.refusals.specs.Numbers.{number}
+use Rattle.refusals.proofs.Laws.{number_some}
+use Rattle.refusals.specs.declared.Refusal.{Refusal}
 
 module _ (s : State) (i : Instruction) (memory : List ℕ) (o : Outcome) where
-  settled_made : o.stop.cause ≡ 0 → settled s i memory o ≡ reached (write_register s.registers (destination i) o.result) o.next memory o.stop
-  settled_made h =
-      rw (eq-eqb o.stop.cause 0 h) (ap (λ (n : ℕ). reached (write_register s.registers (destination i) o.result) o.next memory (stop n)) (sym h))
+  settled_made : o.stop.cause ≡ 0 → settled s i memory o ≡ reached (write_register s.registers (destination i) o.result) o.next memory (stop 0)
+  settled_made h = rw (eq-eqb o.stop.cause 0 h)
 
   settled_stopped : (o.stop.cause ≡ 0 → ⊥) → settled s i memory o ≡ stopped_at s o.stop
   settled_stopped h = rw (ne_eqb o.stop.cause 0 h)
 
 -- a step whose values were found one after the other
-module _ (i : Instruction) (s : State) (first operand second : ℕ) (o : Outcome)
-    (e1 : first ≡ read_register s.registers (first_source i)) (e2 : operand ≡ read_register s.registers (second_source i))
-    (e3 : second ≡ second_value i first operand s.memory) (eo : o ≡ executed (length s.memory) i s.address first second) where
+module _ (i : Instruction) (s : State) (action : Action) (constant first operand at second : ℕ) (o : Outcome)
+    (ea : action ≡ action_of i.operation) (ec : constant ≡ word_of i.constant)
+    (e1 : first ≡ read_register s.registers (first_source i)) (e2 : operand ≡ read_register s.registers (second_source i)) (et : at ≡ sum first constant)
+    (e3 : second ≡ second_by action (length s.memory) at operand (byte_of s.memory)) (eo : o ≡ executed_by action (length s.memory) s.address constant first second) where
   second_is : second ≡ second_of s i
-  second_is = e3 ∙ ap (λ (x : ℕ). second_value i x operand s.memory) e1 ∙ ap (λ (x : ℕ). second_value i (first_of s i) x s.memory) e2
+  second_is = rw (e3, ea, et, ec, e2, e1)
 
   outcome_is : o ≡ executed (length s.memory) i s.address (first_of s i) (second_of s i)
-  outcome_is = eo ∙ ap (λ (x : ℕ). executed (length s.memory) i s.address x second) e1 ∙ ap (λ (x : ℕ). executed (length s.memory) i s.address (first_of s i) x) second_is
+  outcome_is = rw (eo, ea, ec, second_is, e1)
 
-  memory_is : stored i first second s.memory ≡ stored i (first_of s i) (second_of s i) s.memory
-  memory_is = ap (λ (x : ℕ). stored i x second s.memory) e1 ∙ ap (λ (x : ℕ). stored i (first_of s i) x s.memory) second_is
+  memory_is : stored_by action at second s.memory ≡ stored i (first_of s i) (second_of s i) s.memory
+  memory_is = rw (ea, et, ec, second_is, e1)
 
-  with_is : step_with i s ≡ settled s i (stored i first second s.memory) o
+  with_is : step_with i s ≡ settled s i (stored_by action at second s.memory) o
   unfolding step_with
-  with_is = sym (ap (λ (m : List ℕ). settled s i m o) memory_is ∙ ap (settled s i (stored i (first_of s i) (second_of s i) s.memory)) outcome_is)
+  with_is = rw (memory_is, outcome_is)
 
-  pub step_made : o.stop.cause ≡ 0 → (registers memory : List ℕ) → registers ≡ write_register s.registers (destination i) o.result → memory ≡ stored i first second s.memory
-      → step_with i s ≡ reached registers o.next memory o.stop
-  step_made h registers memory r m =
-      with_is ∙ settled_made s i (stored i first second s.memory) o h
-      ∙ sym (ap (λ (x : List ℕ). reached x o.next memory o.stop) r ∙ ap (λ (x : List ℕ). reached (write_register s.registers (destination i) o.result) o.next x o.stop) m)
+  pub step_made : o.stop.cause ≡ 0 → (registers memory : List ℕ) → registers ≡ write_register s.registers (destination i) o.result → memory ≡ stored_by action at second s.memory
+      → step_with i s ≡ reached registers o.next memory (stop 0)
+  step_made h registers memory r m = rw (r, m) (with_is ∙ settled_made s i (stored_by action at second s.memory) o h)
 
-  pub step_not_made : (o.stop.cause ≡ 0 → ⊥) → step_with i s ≡ reached s.registers o.next s.memory o.stop
-  step_not_made h =
-      let next : o.next ≡ s.address = subst (λ (x : Outcome). (x.stop.cause ≡ 0 → ⊥) → x.next ≡ s.address) (sym eo) (λ g. (executed_proper (length s.memory) i s.address first second).next g) h in
-      with_is ∙ settled_stopped s i (stored i first second s.memory) o h ∙ ap (λ (a : ℕ). reached s.registers a s.memory o.stop) (sym next)
+  pub step_not_made : (o.stop.cause ≡ 0 → ⊥) → step_with i s ≡ stopped_at s o.stop
+  step_not_made h = with_is ∙ settled_stopped s i (stored_by action at second s.memory) o h
 
 -- the step, by the fetch
 module _ (program : List ℕ) (s : State) where
-  pub step_found : (i : Instruction) → fetch_numbers (Found i) ≡ fetch_at program s.address → step_of program s ≡ step_with i s
+  pub step_found : (i : Instruction) → fetch_numbers (Ok i) ≡ fetch_at program s.address → step_of program s ≡ step_with i s
   unfolding step_of
   step_found i e = sym (ap (λ (f : FetchNumbers). step_fetched f s) e)
 
-  pub step_stopped : (why : Stop) → fetch_numbers (Stopped why) ≡ fetch_at program s.address → step_of program s ≡ stopped_at s why
+  pub step_stopped : (why : Stop) → fetch_numbers (Err why) ≡ fetch_at program s.address → step_of program s ≡ stopped_at s why
   unfolding step_of
   step_stopped why e = sym (ap (λ (f : FetchNumbers). step_fetched f s) e)
 
   -- the exported step, by the refusal
-  pub step_refused : (refusal : ℕ) → refusal ≡ length_refusal program s.memory → (refusal ≡ 0 → ⊥) → stepped_of program s ≡ step_answer (stopped_at s (stop 0)) refusal
+  pub step_refused : (refusal : Refusal) → number refusal ≡ length_refusal program s.memory → stepped_of program s ≡ step_answer (stopped_at s (stop 0)) (number refusal)
   unfolding stepped_of
-  step_refused refusal e h =
-      rw (ne_eqb (length_refusal program s.memory) 0 (λ z. h (e ∙ z))) (ap (step_answer (stopped_at s (stop 0))) (sym e))
+  step_refused refusal e =
+      rw (ne_eqb (length_refusal program s.memory) 0 (λ z. number_some refusal (e ∙ z))) (ap (step_answer (stopped_at s (stop 0))) (sym e))
 
-  pub step_accepted : (refusal : ℕ) → refusal ≡ length_refusal program s.memory → refusal ≡ 0 → (r : Step) → step_of program s ≡ r → stepped_of program s ≡ step_answer r 0
+  pub step_accepted : 0 ≡ length_refusal program s.memory → stepped_of program s ≡ step_answer (step_of program s) 0
   unfolding stepped_of
-  step_accepted refusal e h r q = rw (eq-eqb (length_refusal program s.memory) 0 (sym e ∙ h)) (ap (λ (x : Step). step_answer x 0) q)
+  step_accepted e = rw (eq-eqb (length_refusal program s.memory) 0 (sym e))
 
 -- what a step keeps
 pub choose_either : {A B : Type 0} (f : A → B) (b : Bool) (x y : A) (z : B) → f x ≡ z → f y ≡ z → f (choose b x y) ≡ z

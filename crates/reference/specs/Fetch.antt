@@ -1,13 +1,11 @@
 -- The instruction at an address, or a stop.
-use Rattle.std.specs.Prelude.{ℕ, Bool, true, false, List, eqb, length}
+use Rattle.std.specs.Prelude.{ℕ, Bool, true, false, Result, Ok, Err, List, eqb, length}
 use Rattle.word.specs.Bytes.{number, byte_of}
 use Rattle.isa.specs.Reads.{choose, none, Numbers, read_of}
 use Rattle.isa.specs.declared.Instruction.{Instruction}
 use Rattle.execution.specs.Memory.{accessible}
 use Rattle.execution.specs.Execute.{stop}
 use Rattle.execution.specs.declared.Stop.{Stop}
-use Rattle.reference.specs.declared.Fetching.{Fetching}
-use Rattle.reference.specs.declared.Fetching.TheVariants.{Found, Stopped}
 
 -- a fetch in document 01's numbers: whether there is an instruction, the stop (cause 0 where there is one), the instruction
 pub record FetchNumbers : Type 0 where
@@ -18,9 +16,9 @@ pub record FetchNumbers : Type 0 where
 abbrev pub no_instruction : Stop → FetchNumbers
 no_instruction why = record { found = false; stop = why; fields = none }
 
-abbrev pub fetch_numbers : Fetching → FetchNumbers
-fetch_numbers (Found i) = record { found = true; stop = stop 0; fields = i }
-fetch_numbers (Stopped why) = no_instruction why
+abbrev pub fetch_numbers : Result Instruction Stop → FetchNumbers
+fetch_numbers (Ok i) = record { found = true; stop = stop 0; fields = i }
+fetch_numbers (Err why) = no_instruction why
 
 -- "1 illegal" is the reading's own cause
 abbrev pub of_reading : Numbers → FetchNumbers

@@ -2,7 +2,7 @@
 use Rattle.std.specs.Prelude.{ℕ, zero, suc, ◌+◌, List, eqb}
 use Rattle.isa.specs.Reads.{choose}
 use Rattle.execution.specs.Execute.{stop}
-use Rattle.reference.specs.Step.{State, step_of, length_refusal}
+use Rattle.reference.specs.Step.{State, step_of, length_refusal, refusal_number}
 use Rattle.execution.specs.declared.Stop.{Stop}
 use Rattle.reference.specs.declared.Ran.{Ran}
 
@@ -25,8 +25,19 @@ run_of zero program s = ended s (stop 0)
 run_of (suc n) program s =
     choose (eqb (step_of program s).stop.cause 0) (after 1 (run_of n program (step_of program s).state)) (ended s (step_of program s).stop)
 
+-- what the exported run hands back, and the data it leaves
+pub record RunNumbers : Type 0 where
+  pub registers : List ℕ
+  pub address : ℕ
+  pub steps : ℕ
+  pub stop : Stop
+  pub refusal : ℕ
+
+abbrev pub ran : Ran → RunNumbers
+ran r = record { registers = r.registers; address = r.address; steps = r.steps; stop = r.stop; refusal = refusal_number r.refusal }
+
 pub record RunAnswer : Type 0 where
-  pub answer : Ran
+  pub answer : RunNumbers
   pub memory : List ℕ
 
 abbrev pub run_answer : Run → ℕ → RunAnswer

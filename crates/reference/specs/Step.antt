@@ -1,5 +1,7 @@
 -- The in-order step.
-use Rattle.std.specs.Prelude.{ℕ, ◌%◌, Bool, not, ◌&&◌, List, [], ◌∷◌, leb, eqb, length, get_or, set}
+use Rattle.std.specs.Prelude.{ℕ, ◌%◌, Bool, not, ◌&&◌, Option, None, Some, Result, Ok, Err, List, [], ◌∷◌, leb, eqb, length, get_or, set}
+use Rattle.refusals.specs.Numbers.{number}
+use Rattle.refusals.specs.declared.Refusal.{Refusal}
 use Rattle.isa.specs.Reads.{choose}
 use Rattle.isa.specs.declared.Instruction.{Instruction}
 use Rattle.execution.specs.Memory.{second_value, stored}
@@ -45,6 +47,11 @@ reached registers address memory why = record { state = state registers address 
 
 abbrev pub stopped_at : State → Stop → Step
 stopped_at s why = record { state = s; stop = why }
+
+-- a step on lent registers and data, by the next address or the stop handed back and the state that it leaves
+abbrev pub advanced : Result ℕ Stop → State → Step
+advanced (Ok next) s = reached s.registers next s.memory (stop 0)
+advanced (Err why) s = stopped_at s why
 
 -- "A stopped instruction changes nothing."
 abbrev pub settled : State → Instruction → List ℕ → Outcome → Step
@@ -96,9 +103,23 @@ lengths_refusal program bytes = first (when (not (program_fits program)) 3 ∷ w
 abbrev pub length_refusal : List ℕ → List ℕ → ℕ
 length_refusal program memory = lengths_refusal (length program) (length memory)
 
+-- 0 for no refusal
+abbrev pub refusal_number : Option Refusal → ℕ
+refusal_number None = 0
+refusal_number (Some refusal) = number refusal
+
 -- what the exported step hands back, and the data it leaves
+pub record StepNumbers : Type 0 where
+  pub registers : List ℕ
+  pub address : ℕ
+  pub stop : Stop
+  pub refusal : ℕ
+
+abbrev pub stepped : Stepped → StepNumbers
+stepped s = record { registers = s.registers; address = s.address; stop = s.stop; refusal = refusal_number s.refusal }
+
 pub record StepAnswer : Type 0 where
-  pub answer : Stepped
+  pub answer : StepNumbers
   pub memory : List ℕ
 
 abbrev pub step_answer : Step → ℕ → StepAnswer

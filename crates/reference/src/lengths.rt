@@ -1,5 +1,8 @@
 ghost use Rattle.std.specs.Prelude.{◌≡◌};
+ghost use Rattle.refusals.specs.Numbers.{number_of};
 ghost use Rattle.reference.specs.Step.{program_fits, data_fits, lengths_refusal, length_refusal};
+
+use refusals::Refusal;
 
 pub const LONGEST_PROGRAM: usize = 16_384;
 
@@ -19,22 +22,23 @@ pub fn data_fits(bytes: usize) -> bool
     bytes <= LONGEST_DATA
 }
 
-// refusal 3 for a program's length, 4 for the data's, 0 for none. Inner: step, run, set-up and replay use it.
-pub fn refusal_of(program: usize, bytes: usize) -> u8
-    ensures { result ≡ lengths_refusal program bytes }
+// refusal 3 for a program's length, 4 for the data's. Inner: step, run, set-up and replay use it.
+#[tactic(auto, unfolding(crate::specs::Step::lengths_refusal, crate::specs::Step::first))]
+pub fn check(program: usize, bytes: usize) -> Result<(), Refusal>
+    ensures { number_of result ≡ lengths_refusal program bytes }
 {
     if !program_fits(program) {
-        return 3;
+        return Err(Refusal::ProgramLength);
     }
     if !data_fits(bytes) {
-        return 4;
+        return Err(Refusal::DataLength);
     }
-    0
+    Ok(())
 }
 
 // Inner: step, run, set-up and replay use it.
-pub fn refusal(program: &[u8], data: &[u8]) -> u8
-    ensures { result ≡ length_refusal program.now «data».now }
+pub fn check_lent(program: &[u8], data: &[u8]) -> Result<(), Refusal>
+    ensures { number_of result ≡ length_refusal program.now «data».now }
 {
-    refusal_of(program.len(), data.len())
+    check(program.len(), data.len())
 }

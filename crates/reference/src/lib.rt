@@ -9,41 +9,28 @@ pub mod running;
 pub mod stepping;
 
 use execution::Stop;
-use isa::Instruction;
 pub use operands::{destination_of, first_source, second_source};
 pub use program::fetch;
+use refusals::Refusal;
 pub use running::run;
 pub use stepping::step;
 
-// What the program has at an address.
-#[derive(Clone, Copy)]
-pub enum Fetching {
-    Found(Instruction),
-    Stopped(Stop),
-}
-
-// Where a step on lent registers and data leads, or why it is not made.
-#[derive(Clone, Copy)]
-pub struct Advance {
-    pub address: u32,
-    pub stop: Stop,
-}
-
-// The state after one step; at a stop or a refusal it is as given.
-#[derive(Clone, Copy)]
+// The state after one step; at a stop or a refusal it is as given. Document 01 wants it back in both cases, so that stop and
+// refusal stand beside it and no Result does; a stop has document 01's number, as in a machine.
+#[derive(Clone, Copy, Debug, PartialEq, Eq)]
 pub struct Stepped {
     pub registers: [u32; 32],
     pub address: u32,
     pub stop: Stop,
-    pub refusal: u8,
+    pub refusal: Option<Refusal>,
 }
 
-// The state after a run, and how many steps were made.
-#[derive(Clone, Copy)]
+// The state after a run, and how many steps were made; stop and refusal as after a step.
+#[derive(Clone, Copy, Debug, PartialEq, Eq)]
 pub struct Ran {
     pub registers: [u32; 32],
     pub address: u32,
     pub steps: u16,
     pub stop: Stop,
-    pub refusal: u8,
+    pub refusal: Option<Refusal>,
 }

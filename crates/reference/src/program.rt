@@ -2,9 +2,8 @@ ghost use Rattle.std.specs.Prelude.{◌≡◌, true};
 ghost use Rattle.isa.specs.Reads.{illegal};
 ghost use Rattle.reference.specs.Fetch.{fetch_numbers, of_reading, has_word, word_at, outside, fetch_at};
 
-use crate::Fetching;
 use execution::{Stop, memory};
-use isa::Reading;
+use isa::Instruction;
 
 // Inner, for fetch and for decode: whether the program has a word at this address.
 pub fn has_word(program: &[u8], address: u32) -> bool
@@ -14,6 +13,7 @@ pub fn has_word(program: &[u8], address: u32) -> bool
 }
 
 // Inner, for fetch and for decode: the word at an address that has one.
+#[tactic(auto, using(execution::proofs::MemoryLaws::access_room))]
 pub fn word_at(program: &[u8], address: u32) -> u32
     requires { has_word program.now address ≡ true }
     ensures { result ≡ word_at program.now address }
@@ -37,15 +37,12 @@ pub fn illegal() -> Stop
 
 // The instruction at an address, or a stop: 4 outside the program or not a multiple of 4, 1 illegal.
 // Inner: step and run use it.
-pub fn fetch(program: &[u8], address: u32) -> Fetching
+#[tactic(auto, unfolding(crate::specs::Fetch::fetch_at))]
+pub fn fetch(program: &[u8], address: u32) -> Result<Instruction, Stop>
     ensures { fetch_numbers result ≡ fetch_at program.now address }
 {
     if !has_word(program, address) {
-        return Fetching::Stopped(outside());
+        return Err(outside());
     }
-    let word = word_at(program, address);
-    let Reading::Legal(i) = isa::read(word) else {
-        return Fetching::Stopped(illegal());
-    };
-    Fetching::Found(i)
+    isa::read(word_at(program, address)).ok_or(illegal())
 }

@@ -1,9 +1,10 @@
-ghost use Rattle.std.specs.Prelude.{◌≡◌, ◌<◌, length};
+ghost use Rattle.std.specs.Prelude.{◌≡◌, ◌<◌};
 ghost use Rattle.reference.specs.Step.{read_register, write_register};
 
 // x0 reads 0. Inner: step and run use it.
+#[tactic(auto, unfolding(crate::specs::Step::read_register))]
 pub fn read(registers: &[u32; 32], r: u8) -> u32
-    requires { (r < 32) × (length registers.now ≡ 32) }
+    requires { r < 32 }
     ensures { result ≡ read_register registers.now r }
 {
     if r == 0 {
@@ -13,8 +14,9 @@ pub fn read(registers: &[u32; 32], r: u8) -> u32
 }
 
 // writing x0 does nothing. Inner: step and run use it.
+#[tactic(auto, unfolding(crate::specs::Step::write_register))]
 pub fn write(registers: &mut [u32; 32], r: u8, value: u32)
-    requires { (r < 32) × (length registers.old ≡ 32) }
+    requires { r < 32 }
     ensures { registers.new ≡ write_register registers.old r value }
 {
     if r != 0 {

@@ -7,47 +7,44 @@ use execution::Stop;
 
 // up to n steps, lengths unseen
 fn proceed(program: &[u8], data: &mut [u8], registers: [u32; 32], address: u32, n: u16) -> Ran
-    ensures { Run.run_answer (Run.run_of n program.now (Step.state registers address «data».old)) 0 ≡ record { answer = result; memory = «data».new } }
+    ensures { Run.run_answer (Run.run_of n program.now (Step.state registers address «data».old)) 0 ≡ record { answer = Run.ran result; memory = «data».new } }
 {
     let mut values = registers;
     let mut at = address;
-    let mut steps: u16 = 0;
-    while steps < n {
-        let next = stepping::advance(program, data, &mut values, at);
-        let stop = next.stop;
-        if stop.cause != 0 {
-            return Ran {
-                registers: values,
-                address: at,
-                steps,
-                stop,
-                refusal: 0,
-            };
+    for steps in 0..n {
+        match stepping::advance(program, data, &mut values, at) {
+            Ok(next) => at = next,
+            Err(stop) => {
+                return Ran {
+                    registers: values,
+                    address: at,
+                    steps,
+                    stop,
+                    refusal: None,
+                };
+            }
         }
-        at = next.address;
-        steps += 1;
     }
     Ran {
         registers: values,
         address: at,
-        steps,
+        steps: n,
         stop: Stop { cause: 0 },
-        refusal: 0,
+        refusal: None,
     }
 }
 
 // Up to n steps in order, fewer at a stop; at a refusal all comes back as given with 0 steps.
 pub fn run(program: &[u8], data: &mut [u8], registers: [u32; 32], address: u32, n: u16) -> Ran
-    ensures { Run.ran_of n program.now (Step.state registers address «data».old) ≡ record { answer = result; memory = «data».new } }
+    ensures { Run.ran_of n program.now (Step.state registers address «data».old) ≡ record { answer = Run.ran result; memory = «data».new } }
 {
-    let refusal = lengths::refusal(program, data);
-    if refusal != 0 {
+    if let Err(refusal) = lengths::check_lent(program, data) {
         return Ran {
             registers,
             address,
             steps: 0,
             stop: Stop { cause: 0 },
-            refusal,
+            refusal: Some(refusal),
         };
     }
     proceed(program, data, registers, address, n)

@@ -1,68 +1,78 @@
-ghost use Rattle.std.specs.Prelude.{◌≡◌, ◌≤◌, ◌<◌, length};
-ghost use Rattle.isa.specs.Listing.{last};
+ghost use Rattle.std.specs.Prelude.{◌≡◌, ◌≢◌, ◌<◌, IfErr};
 ghost use Rattle.reference.specs.Step as Step;
 
-use crate::{Advance, Fetching, Stepped, lengths, operands, program, registers};
+use crate::{Stepped, lengths, operands, program, registers};
 use execution::{Stop, actions, executing, memory};
 use isa::Instruction;
 
-// one instruction on lent registers and data; a stop leaves them. The action is looked up once and handed on.
-fn make(i: Instruction, data: &mut [u8], registers: &mut [u32; 32], address: u32) -> Advance
-    requires { (i.operation ≤ last) × (i.rs1 < 32) × (i.rs2 < 32) × (i.rd < 32) × (length registers.old ≡ 32) }
-    ensures { Step.step_with i (Step.state registers.old address «data».old) ≡ Step.reached registers.new result.address «data».new result.stop }
+// one instruction on lent registers and data: the next address, or a stop, which leaves them.
+// The action is looked up once and handed on.
+fn make(
+    i: Instruction,
+    data: &mut [u8],
+    registers: &mut [u32; 32],
+    address: u32,
+) -> Result<u32, Stop>
+    requires { (i.rs1 < 32) × (i.rs2 < 32) × (i.rd < 32) }
+    ensures made { Step.step_with i (Step.state registers.old address «data».old) ≡ Step.advanced result (Step.state registers.new address «data».new) }
+    ensures stopped { IfErr result (λ why. why.cause ≢ 0) }
 {
-    let operation = i.operation as usize;
-    let class = actions::class(operation);
-    let kind = actions::kind(operation);
+    let action = actions::action(i.operation);
     let constant = word::to_word(i.constant);
     let first = registers::read(registers, operands::first_source(i));
     let operand = registers::read(registers, operands::second_source(i));
     let at = word::add(first, constant);
-    let second = memory::second_by(class, kind, data, at, operand);
-    let outcome = executing::perform(class, kind, data.len(), address, constant, first, second);
+    let second = memory::second_by(action, data, at, operand);
+    let outcome = executing::perform(action, data.len(), address, constant, first, second);
     let stop = outcome.stop;
-    if stop.cause == 0 {
-        memory::store_by(class, kind, data, at, second);
-        registers::write(registers, operands::destination_of(i), outcome.result);
+    if stop.cause != 0 {
+        return Err(stop);
     }
-    Advance {
-        address: outcome.next,
-        stop,
-    }
+    memory::store_by(action, data, at, second);
+    registers::write(registers, operands::destination_of(i), outcome.result);
+    Ok(outcome.next)
 }
 
-// one step on lent registers and data. Inner: step and run use it.
-pub fn advance(program: &[u8], data: &mut [u8], registers: &mut [u32; 32], address: u32) -> Advance
-    requires { length registers.old ≡ 32 }
-    ensures { Step.step_of program.now (Step.state registers.old address «data».old) ≡ Step.reached registers.new result.address «data».new result.stop }
+// One step on lent registers and data: the next address, or a stop, which has a cause and leaves them.
+// Inner: step and run use it.
+pub fn advance(
+    program: &[u8],
+    data: &mut [u8],
+    registers: &mut [u32; 32],
+    address: u32,
+) -> Result<u32, Stop>
+    ensures made { Step.step_of program.now (Step.state registers.old address «data».old) ≡ Step.advanced result (Step.state registers.new address «data».new) }
+    ensures stopped { IfErr result (λ why. why.cause ≢ 0) }
 {
-    let fetched = program::fetch(program, address);
-    match fetched {
-        Fetching::Found(i) => make(i, data, registers, address),
-        Fetching::Stopped(stop) => Advance { address, stop },
-    }
+    let i = program::fetch(program, address)?;
+    make(i, data, registers, address)
 }
 
 // One instruction in order: registers and address after it, or as given with a stop or a refusal.
 pub fn step(program: &[u8], data: &mut [u8], registers: [u32; 32], address: u32) -> Stepped
-    ensures { Step.stepped_of program.now (Step.state registers address «data».old) ≡ record { answer = result; memory = «data».new } }
+    ensures { Step.stepped_of program.now (Step.state registers address «data».old) ≡ record { answer = Step.stepped result; memory = «data».new } }
 {
-    let refusal = lengths::refusal(program, data);
     let mut values = registers;
-    if refusal != 0 {
+    if let Err(refusal) = lengths::check_lent(program, data) {
         return Stepped {
             registers: values,
             address,
             stop: Stop { cause: 0 },
-            refusal,
+            refusal: Some(refusal),
         };
     }
-    let next = advance(program, data, &mut values, address);
-    let stop = next.stop;
-    Stepped {
-        registers: values,
-        address: next.address,
-        stop,
-        refusal: 0,
+    match advance(program, data, &mut values, address) {
+        Ok(next) => Stepped {
+            registers: values,
+            address: next,
+            stop: Stop { cause: 0 },
+            refusal: None,
+        },
+        Err(stop) => Stepped {
+            registers: values,
+            address,
+            stop,
+            refusal: None,
+        },
     }
 }

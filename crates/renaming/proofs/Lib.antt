@@ -6,5 +6,4 @@ pub mod RangeLaws
 pub mod FreshInRange
 pub mod DropLaws
 pub mod RefusalLaws
-pub mod OperationLaws
 pub mod ChangeLaws

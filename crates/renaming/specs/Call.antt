@@ -4,7 +4,7 @@ use Rattle.isa.specs.Reads.{choose}
 use Rattle.reference.specs.Step.{when, first}
 use Rattle.renaming.specs.Range.{machine_in_range}
 use Rattle.renaming.specs.declared.Core.{Core}
-use Rattle.renaming.specs.declared.Answer.{Answer}
+use Rattle.renaming.specs.Answer.{Answer}
 
 -- 6: "a lent length differs from set-up"
 abbrev pub lengths_differ : Core → List ℕ → List ℕ → Bool

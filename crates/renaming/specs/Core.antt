@@ -21,15 +21,11 @@ zero_machine =
       setup = setup_of 0 0 0 0;
       count = 0;
       entries = replicate most_entries empty_entry;
-      mapname = replicate 32 0;
-      mapregister = replicate 32 0;
-      mapvalid = replicate 32 false;
+      map = record { names = replicate 32 0; registers = replicate 32 0; valid = replicate 32 false };
       physical = replicate places 0;
       values = replicate places 0;
-      registerhead = 0;
-      registerlink = replicate places 0;
-      namehead = 0;
-      namelink = replicate places 0;
+      free_registers = record { head = 0; link = replicate places 0 };
+      free_names = record { head = 0; link = replicate places 0 };
       fetch = 0;
       next = 0;
       halt = stop 0;

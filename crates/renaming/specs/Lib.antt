@@ -1,5 +1,6 @@
 -- The definitions that the contracts cite, in reading order.
 pub mod Core
+pub mod Answer
 pub mod SetUp
 pub mod Range
 pub mod Setters

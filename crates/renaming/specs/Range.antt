@@ -14,7 +14,7 @@ entries_in_range s count entries = every_from (entry_in_range s) empty_entry 0 c
 
 abbrev pub tables_in_range : Core → Bool
 tables_in_range m =
-    tables_within m.setup m.registerhead m.registerlink m.namehead m.namelink m.physical m.mapname m.mapregister m.halt
+    tables_within m.setup m.free_registers m.free_names m.physical m.map m.halt
 
 unfoldable pub machine_in_range : Core → Bool
 machine_in_range m =

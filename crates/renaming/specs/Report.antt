@@ -7,7 +7,7 @@ use Rattle.renaming.specs.declared.Core.{Core}
 
 -- the value of a logical register; 0 for x0
 abbrev pub value_in : Core → ℕ → ℕ
-value_in m r = look_up m.values (look_up m.mapregister r)
+value_in m r = look_up m.values (look_up m.map.registers r)
 
 -- all values, by logical register
 unfoldable pub values_in : Core → List ℕ

@@ -13,8 +13,8 @@ rising from (suc count) = from ∷ rising (suc from) count
 
 pub record Fresh (s : Setup) : Type 0 where
   -- the free registers are 32 … N, the free names 32 … 31 + W
-  pub freeregisters : Pool (fresh_machine s).registerlink (fresh_machine s).registerhead (rising 32 (s.registers - 31))
-  pub freenames : Pool (fresh_machine s).namelink (fresh_machine s).namehead (rising 32 s.window)
+  pub freeregisters : Pool (fresh_machine s).free_registers.link (fresh_machine s).free_registers.head (rising 32 (s.registers - 31))
+  pub freenames : Pool (fresh_machine s).free_names.link (fresh_machine s).free_names.head (rising 32 s.window)
   -- refusal 5 does not apply
   pub inrange : machine_in_range (fresh_machine s) ≡ true
 

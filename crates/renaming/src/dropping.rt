@@ -1,37 +1,38 @@
-ghost use Rattle.std.specs.Prelude.{◌≡◌, ◌≤◌};
+ghost use Rattle.std.specs.Prelude.{◌≡◌, ◌≤◌, ◌<◌};
 ghost use Rattle.renaming.specs.Drop as Drop;
 ghost use Rattle.ranges.specs.Sizes.{most_entries};
 
 use crate::Core;
-use tables::{entries, free_list, maps};
+use tables::{Entry, table};
 
 impl Core {
-    // The oldest entries alone, so many: with position + 1 kept, all younger than the position are dropped. Each drop is made
-    // in place, since a function that takes and returns the machine copies it twice. Inner: the calls and the report use it.
-    pub fn drop_to(mut self, kept: u8) -> Core
-        requires { self.count ≤ most_entries }
-        ensures { result ≡ Drop.drop_to kept self }
+    // The youngest entry's register, then its name, are freed, and the previous name returns.
+    #[tactic(auto, unfolding(crate::specs::Drop::drop_youngest))]
+    fn drop_youngest(&mut self)
+        requires some { 0 < self.old.count }
+        requires few { self.old.count ≤ most_entries }
+        ensures { self.new ≡ Drop.drop_youngest self.old }
     {
+        self.count -= 1;
+        let at = self.count as usize;
+        let e = self.entries[at];
+        self.entries[at] = Entry::default();
+        self.free_registers.free(e.held(&self.physical));
+        table::store_under(&mut self.physical, e.name, 0);
+        self.free_names.free(e.name);
+        let back = table::look_under(0, &self.physical, e.previous);
+        self.map.set(e.destination, e.previous, back, back != 0);
+    }
+
+    // The oldest entries alone, so many: with position + 1 kept, all younger than the position are dropped. Inner: the calls
+    // and the report use it.
+    pub fn drop_to(&mut self, kept: u8)
+        requires { self.old.count ≤ most_entries }
+        ensures { self.new ≡ Drop.drop_to kept self.old }
+    {
+        // no index is counted: each turn lowers the count itself
         while kept < self.count {
-            let last = self.count - 1;
-            let at = last as usize;
-            let e = self.entries[at];
-            let empty = entries::empty();
-            self.entries[at] = empty;
-            self.count = last;
-            let register = entries::held(&self.physical, e);
-            let free_register = self.registerhead;
-            let register_head = free_list::free(&mut self.registerlink, free_register, register);
-            self.registerhead = register_head;
-            maps::store_under(&mut self.physical, e.name, 0);
-            let free_name = self.namehead;
-            let name_head = free_list::free(&mut self.namelink, free_name, e.name);
-            self.namehead = name_head;
-            let back = maps::look_up(&self.physical, e.previous);
-            maps::map_to(&mut self.mapname, e.destination, e.previous);
-            maps::map_to(&mut self.mapregister, e.destination, back);
-            maps::set_valid(&mut self.mapvalid, e.destination, back != 0);
+            self.drop_youngest();
         }
-        self
     }
 }

@@ -2,6 +2,7 @@
 // holds it as `window::Machine`; all that is public here is inner.
 #![tactic(auto)]
 
+pub mod changing;
 pub mod dropping;
 pub mod lending;
 pub mod range;
@@ -11,31 +12,22 @@ pub mod setting;
 use execution::Stop;
 pub use ranges::Setup;
 use ranges::sizes::MOST_ENTRIES;
-use tables::{Entry, PLACES};
+use tables::{Entry, FreeList, GeneralMap, PLACES};
 
-// The core: all that document 01's machine holds, under 4 KB, by value. Every table is a field of its own; index 0 of a table is nobody's.
-#[derive(Clone, Copy)]
+// The core: all that document 01's machine holds, under 4 KB, by value. Every number may be any: refusal 5 answers those out
+// of range, so none of them is kept from a machine by an invariant; what needs few entries says so. There is no heap: the
+// entries are an array with a count.
+#[derive(Clone, Copy, Debug, PartialEq, Eq)]
 pub struct Core {
     pub setup: Setup,
     pub count: u8,
     pub entries: [Entry; MOST_ENTRIES],
-    pub mapname: [u8; 32],
-    pub mapregister: [u8; 32],
-    pub mapvalid: [bool; 32],
+    pub map: GeneralMap,
     pub physical: [u8; PLACES],
     pub values: [u32; PLACES],
-    pub registerhead: u8,
-    pub registerlink: [u8; PLACES],
-    pub namehead: u8,
-    pub namelink: [u8; PLACES],
+    pub free_registers: FreeList,
+    pub free_names: FreeList,
     pub fetch: u32,
     pub next: u32,
     pub halt: Stop,
-}
-
-// The core after a call, with 0 or a refusal. Inner: a buyer gets `window::Answer`.
-#[derive(Clone, Copy)]
-pub struct Answer {
-    pub core: Core,
-    pub number: u8,
 }

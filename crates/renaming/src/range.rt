@@ -7,25 +7,21 @@ use crate::Core;
 use ranges::{entries, sizes, table};
 
 impl Core {
-    fn entries_in_range(self) -> bool
-        requires { (self.count ≤ most_entries) × (self.setup.window ≤ most_entries) }
-        ensures { result ≡ Range.entries_in_range self.setup self.count self.entries }
+    fn entries_in_range(&self) -> bool
+        requires count { self.now.count ≤ most_entries }
+        requires window { self.now.setup.window ≤ most_entries }
+        ensures { result ≡ Range.entries_in_range self.now.setup self.now.count self.now.entries }
     {
-        let s = self.setup;
-        let count = self.count as usize;
         let mut good = true;
-        let mut k: usize = 0;
-        while k < count {
-            let e = self.entries[k];
-            good = good & entries::entry_in_range(s, e);
-            k += 1;
+        for k in 0..self.count as usize {
+            good &= entries::entry_in_range(self.setup, &self.entries[k]);
         }
         good
     }
 
     // Whether refusal 5 does not apply. Inner: the calls and the report use it.
-    pub fn in_range(self) -> bool
-        ensures { result ≡ Range.machine_in_range self }
+    pub fn in_range(&self) -> bool
+        ensures { result ≡ Range.machine_in_range self.now }
     {
         let s = self.setup;
         if !sizes::setup_in_range(s) {
@@ -34,17 +30,13 @@ impl Core {
         if s.window < self.count {
             return false;
         }
-        let halt = self.halt;
         table::tables_in_range(
             s,
-            self.registerhead,
-            &self.registerlink,
-            self.namehead,
-            &self.namelink,
+            &self.free_registers,
+            &self.free_names,
             &self.physical,
-            &self.mapname,
-            &self.mapregister,
-            halt,
+            &self.map,
+            self.halt,
         ) & self.entries_in_range()
     }
 }

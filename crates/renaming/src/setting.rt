@@ -1,14 +1,15 @@
 ghost use Rattle.std.specs.Prelude.{◌≡◌, ◌≤◌, ◌<◌, length};
 ghost use Rattle.renaming.specs.Core as Machines;
-ghost use Rattle.renaming.specs.SetUp.{rising_next, rising_link, fresh_machine, set_up_of};
-ghost use Rattle.ranges.specs.Sizes.{setup_of, most_entries, most_registers};
+ghost use Rattle.renaming.specs.SetUp.{rising_next, rising_pool, fresh_machine, set_up_of, set_up_answer};
+ghost use Rattle.ranges.specs.Sizes.{setup_of, most_entries};
 ghost use Rattle.tables.specs.Table.{places};
 
-use crate::{Answer, Core};
+use crate::Core;
 use execution::Stop;
 use ranges::sizes::{LAST_LOGICAL, MOST_ENTRIES};
 use ranges::{Setup, sizes};
-use tables::{PLACES, entries};
+use refusals::Refusal;
+use tables::{Entry, FreeList, GeneralMap, PLACES};
 
 // the number after k in a pool of 32 to last
 fn successor(k: usize, last: usize) -> u8
@@ -22,17 +23,15 @@ fn successor(k: usize, last: usize) -> u8
     }
 }
 
-// the links of a pool of 32 to last, in rising order
-fn rise(link: &mut [u8; PLACES], last: u8)
-    requires { length link.old ≡ places }
-    ensures { link.new ≡ rising_link last }
+// a pool of 32 to last, in rising order
+fn rising(last: u8) -> FreeList
+    ensures { result ≡ rising_pool last }
 {
-    let end = last as usize;
-    let mut k: usize = 0;
-    while k < PLACES {
-        link[k] = successor(k, end);
-        k += 1;
+    let mut link = [0u8; PLACES];
+    for k in 0..PLACES {
+        link[k] = successor(k, last as usize);
     }
+    FreeList { head: 32, link }
 }
 
 // logical r has name r and register r
@@ -54,86 +53,68 @@ const VALID: [bool; 32] = [
     true,
 ];
 
-fn zeros() -> Core
-    ensures { result ≡ Machines.zero_machine }
-{
-    Core {
-        setup: Setup {
-            window: 0,
-            registers: 0,
-            program: 0,
-            bytes: 0,
-        },
-        count: 0,
-        entries: [entries::empty(); MOST_ENTRIES],
-        mapname: [0; 32],
-        mapregister: [0; 32],
-        mapvalid: [false; 32],
-        physical: [0; PLACES],
-        values: [0; PLACES],
-        registerhead: 0,
-        registerlink: [0; PLACES],
-        namehead: 0,
-        namelink: [0; PLACES],
-        fetch: 0,
-        next: 0,
-        halt: Stop { cause: 0 },
-    }
-}
-
 fn fresh(setup: Setup) -> Core
-    requires { (setup.window ≤ most_entries) × (setup.registers ≤ most_registers) }
+    requires { setup.window ≤ most_entries }
     ensures { result ≡ fresh_machine setup }
 {
-    let mut registerlink = [0u8; PLACES];
-    let mut namelink = [0u8; PLACES];
-    rise(&mut registerlink, setup.registers);
-    rise(&mut namelink, LAST_LOGICAL + setup.window);
     Core {
         setup,
-        count: 0,
-        entries: [entries::empty(); MOST_ENTRIES],
-        mapname: OWN,
-        mapregister: OWN,
-        mapvalid: VALID,
+        map: GeneralMap {
+            names: OWN,
+            registers: OWN,
+            valid: VALID,
+        },
         physical: PHYSICAL,
-        values: [0; PLACES],
-        registerhead: 32,
-        registerlink,
-        namehead: 32,
-        namelink,
-        fetch: 0,
-        next: 0,
-        halt: Stop { cause: 0 },
+        free_registers: rising(setup.registers),
+        free_names: rising(LAST_LOGICAL + setup.window),
+        ..Core::zeros()
     }
 }
 
 impl Core {
-    // A fresh machine for a window of 1 to 64 entries, 32 to 95 physical registers and these lengths of program and
-    // data; refused by 1 to 4, a machine of zeros. Inner: `window` and replay use it.
-    pub fn set_up(window: u32, registers: u32, program: usize, bytes: usize) -> Answer
-        ensures { result ≡ set_up_of (setup_of window registers program bytes) }
+    // The machine of a refused set-up, all zeros: arrays as long as these have no Default. Inner: `window` uses it.
+    pub fn zeros() -> Core
+        ensures { result ≡ Machines.zero_machine }
     {
-        let number = sizes::refusal(window, registers, program, bytes);
-        if number != 0 {
-            return Answer {
-                core: zeros(),
-                number,
-            };
-        }
-        let window = window as u8;
-        let registers = registers as u8;
-        let program = program as u16;
-        let bytes = bytes as u16;
-        let setup = Setup {
-            window,
-            registers,
-            program,
-            bytes,
+        let empty = FreeList {
+            head: 0,
+            link: [0; PLACES],
         };
-        Answer {
-            core: fresh(setup),
-            number: 0,
+        Core {
+            setup: Setup::default(),
+            count: 0,
+            entries: [Entry::default(); MOST_ENTRIES],
+            map: GeneralMap {
+                names: [0; 32],
+                registers: [0; 32],
+                valid: [false; 32],
+            },
+            physical: [0; PLACES],
+            values: [0; PLACES],
+            free_registers: empty,
+            free_names: empty,
+            fetch: 0,
+            next: 0,
+            halt: Stop::default(),
         }
+    }
+
+    // A fresh machine for a window of 1 to 64 entries, 32 to 95 physical registers and these lengths of program and
+    // data; refused by 1 to 4. Inner: `window` and replay use it.
+    pub fn set_up(
+        window: u32,
+        registers: u32,
+        program: usize,
+        bytes: usize,
+    ) -> Result<Core, Refusal>
+        ensures { set_up_answer result ≡ set_up_of (setup_of window registers program bytes) }
+    {
+        sizes::check(window, registers, program, bytes)?;
+        Ok(fresh(Setup {
+            window: window as u8,
+            registers: registers as u8,
+            program: program as u16,
+            bytes: bytes as u16,
+        }))
     }
 }

@@ -1,59 +1,52 @@
-// Files that may be missing.
-ghost use Rattle.io.specs.Counts.{IsPrefixLen};
-
+// Files of the working folder, which may be missing.
+use std::alloc::Global;
 use std::fs::File;
+use std::io;
 use std::io::{ErrorKind, Read};
-use std::os::fd::AsRawFd;
 use std::rt::Files;
 
-// What stands under a name: no file, an open one, or one that may not be read.
+// What stands under a name: an open file, or no file.
 #[derive(Drop)]
-pub enum Found {
-    Missing,
-    Opened(File),
-    Closed,
+pub struct Input {
+    name: &'static str,
+    file: Option<File>,
 }
 
-impl Found {
-    pub fn is_closed(&self) -> bool {
-        matches!(self, Found::Closed)
+impl Input {
+    // None, after a line on standard error, where the file may not be opened.
+    pub fn open(
+        rt: &(impl Files<File = File> + Eprint),
+        name: &'static str,
+    ) -> io::Result<Option<Input>> {
+        let file = match File::open(rt, name) {
+            Ok(file) => Some(file),
+            Err(e) if e.kind() == ErrorKind::NotFound => None,
+            Err(e) => {
+                eprintln!(rt; "{name}: {e}")?;
+                return Ok(None);
+            }
+        };
+        Ok(Some(Input { name, file }))
     }
-}
 
-// Closed after a line on standard error.
-pub fn open(rt: &(impl Files<File = File> + Eprint), name: &str) -> std::io::Result<Found> {
-    match File::open(rt, name) {
-        Ok(file) => Ok(Found::Opened(file)),
-        Err(e) if e.kind() == ErrorKind::NotFound => Ok(Found::Missing),
-        Err(e) => {
-            eprintln!(rt; "{name}: {e}")?;
-            Ok(Found::Closed)
-        }
-    }
-}
-
-// Fills the buffer from its start, and answers how many bytes there were; none in a missing file.
-pub fn read(found: &Found, buffer: &mut [u8]) -> usize
-    ensures { IsPrefixLen result buffer.new }
-{
-    match found {
-        Found::Opened(file) => io::read_full(file.as_raw_fd(), buffer),
-        _ => 0,
-    }
-}
-
-// Whether reading ended at an error and not at the file's end; then a line on standard error says so.
-pub fn failed(rt: &impl Eprint, found: &Found, name: &str) -> std::io::Result<bool> {
-    let Found::Opened(file) = found else {
-        return Ok(false);
-    };
-    let mut file = file;
-    let mut further = [0u8; 1];
-    match file.read(&mut further) {
-        Ok(_) => Ok(false),
-        Err(e) => {
-            eprintln!(rt; "{name}: {e}")?;
-            Ok(true)
+    // The file's bytes, and no more than `most` of them; none of a missing file. None, after a line on standard error, where
+    // reading ends at an error and not at the file's end.
+    pub fn read<R: Eprint + Alloc<A = Global>>(
+        self,
+        rt: &R,
+        most: usize,
+    ) -> io::Result<Option<Vec<u8>>> {
+        let Input { name, file } = self;
+        let mut bytes = Vec::new(rt.alloc());
+        let Some(file) = file else {
+            return Ok(Some(bytes));
+        };
+        match file.take(most as u64).read_to_end(&mut bytes) {
+            Ok(_) => Ok(Some(bytes)),
+            Err(e) => {
+                eprintln!(rt; "{name}: {e}")?;
+                Ok(None)
+            }
         }
     }
 }

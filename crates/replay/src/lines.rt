@@ -1,37 +1,32 @@
-// Lines on standard output: a name and a number.
+// The lines on standard output.
+use bench::Replayed;
+use std::io;
 
-// the descriptor of standard output
-const STDOUT_FILENO: i32 = 1;
-
-fn end() {
-    io::write_all(STDOUT_FILENO, b"\n");
-}
-
-pub fn decimal(name: &[u8], number: u32) {
-    io::write_all(STDOUT_FILENO, name);
-    io::print_decimal(STDOUT_FILENO, number as u64);
-    end();
-}
-
-pub fn hexadecimal(name: &[u8], number: u32) {
-    io::write_all(STDOUT_FILENO, name);
-    io::print_hex(STDOUT_FILENO, number as u64, 8);
-    end();
-}
-
-fn register(k: usize, value: u32) {
-    io::write_all(STDOUT_FILENO, b"x");
-    io::print_decimal(STDOUT_FILENO, k as u64);
-    hexadecimal(b" ", value);
-}
-
-// A line for each register that is not 0.
-pub fn registers(values: [u32; 32]) {
-    let mut k = 1;
-    while k < 32 {
-        if values[k] != 0 {
-            register(k, values[k]);
-        }
-        k += 1;
+// Each field under its name, then each register that is not 0.
+pub fn print(rt: &impl Print, found: &Replayed) -> io::Result<()> {
+    let counts = found.counts;
+    let fields = [
+        ("accepted", counts.accepted),
+        ("refused", counts.refused),
+        ("committed", counts.committed),
+        ("steals", counts.steals),
+        ("dropped", counts.dropped),
+        ("rate", found.rate),
+        ("halt", found.halt),
+    ];
+    for (name, value) in fields {
+        println!(rt; "{name} {value}")?;
     }
+    println!(rt; "next {:08x}", found.next)?;
+    registers(rt, &found.registers)
+}
+
+// x0 has no line
+fn registers(rt: &impl Print, values: &[u32; 32]) -> io::Result<()> {
+    for (k, value) in values.iter().enumerate().skip(1) {
+        if *value != 0 {
+            println!(rt; "x{k} {value:08x}")?;
+        }
+    }
+    Ok(())
 }

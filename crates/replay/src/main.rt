@@ -5,70 +5,43 @@
 mod files;
 mod lines;
 
-use bench::Replayed;
-use files::Found;
+use files::Input;
 use formats::schedule;
 use reference::lengths;
+use std::alloc::Global;
+use std::io;
 
-fn print(found: Replayed) {
-    let counts = found.counts;
-    let registers = found.registers;
-    lines::decimal(b"accepted ", counts.accepted);
-    lines::decimal(b"refused ", counts.refused);
-    lines::decimal(b"committed ", counts.committed);
-    lines::decimal(b"steals ", counts.steals);
-    lines::decimal(b"dropped ", counts.dropped);
-    lines::decimal(b"rate ", found.rate);
-    lines::decimal(b"halt ", found.halt);
-    lines::hexadecimal(b"next ", found.next);
-    lines::registers(registers);
-}
-
-fn replay(program: &[u8], data: &mut [u8], schedule: &[u8]) {
+fn replay(rt: &impl Print, program: &[u8], data: &mut [u8], schedule: &[u8]) -> io::Result<()> {
     let mut result = [0u8; formats::RESULT_LENGTH];
-    let found = bench::replay(program, data, schedule, &mut result);
-    if found.number != 0 {
-        lines::decimal(b"refused by ", found.number);
-        return;
+    match bench::replay(program, data, schedule, &mut result) {
+        Ok(found) => lines::print(rt, &found),
+        Err(refusal) => println!(rt; "refused by {}", u8::from(refusal)),
     }
-    print(found);
 }
 
-// A buffer has one byte more than replay accepts, so that a longer file is refused by its length and not cut to fit.
-const PROGRAM: usize = lengths::LONGEST_PROGRAM + 1;
-
-const DATA: usize = lengths::LONGEST_DATA + 1;
-
-const SCHEDULE: usize = schedule::LONGEST + 1;
-
-fn read_and_replay(
-    rt: &impl Eprint,
-    code: &Found,
-    memory: &Found,
-    chain: &Found,
-) -> std::io::Result<()> {
-    let mut program = [0u8; PROGRAM];
-    let mut data = [0u8; DATA];
-    let mut schedule = [0u8; SCHEDULE];
-    let p = files::read(code, &mut program);
-    let d = files::read(memory, &mut data);
-    let s = files::read(chain, &mut schedule);
-    if files::failed(rt, code, "core.code")?
-        | files::failed(rt, memory, "core.data")?
-        | files::failed(rt, chain, "core.sched")?
-    {
-        return Ok(());
+// One byte more is read than replay accepts, so that a longer file is refused by its length and not cut to fit.
+fn read_and_replay<R: Print + Eprint + Alloc<A = Global>>(
+    rt: &R,
+    code: Input,
+    memory: Input,
+    chain: Input,
+) -> io::Result<()> {
+    let program = code.read(rt, lengths::LONGEST_PROGRAM + 1)?;
+    let data = memory.read(rt, lengths::LONGEST_DATA + 1)?;
+    let schedule = chain.read(rt, schedule::LONGEST + 1)?;
+    if let (Some(program), Some(mut data), Some(schedule)) = (program, data, schedule) {
+        // a line that cannot be written is let go
+        let _ = replay(rt, &program, &mut data, &schedule);
     }
-    replay(&program[..p], &mut data[..d], &schedule[..s]);
     Ok(())
 }
 
-fn main(rt: HostRuntime) -> std::io::Result<()> {
-    let code = files::open(&rt, "core.code")?;
-    let memory = files::open(&rt, "core.data")?;
-    let chain = files::open(&rt, "core.sched")?;
-    if code.is_closed() || memory.is_closed() || chain.is_closed() {
-        return Ok(());
+fn main(rt: HostRuntime) -> io::Result<()> {
+    let code = Input::open(&rt, "core.code")?;
+    let memory = Input::open(&rt, "core.data")?;
+    let chain = Input::open(&rt, "core.sched")?;
+    if let (Some(code), Some(memory), Some(chain)) = (code, memory, chain) {
+        return read_and_replay(&rt, code, memory, chain);
     }
-    read_and_replay(&rt, &code, &memory, &chain)
+    Ok(())
 }

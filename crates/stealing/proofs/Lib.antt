@@ -1,2 +1,3 @@
 -- Laws of the theft.
 pub mod StealLaws
+pub mod RobbedLaws

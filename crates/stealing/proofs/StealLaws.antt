@@ -8,25 +8,22 @@ use borrow.Author.Tests.{eq-eqb, ne_eqb}
 use lib.Dec.{eqb}
 use lib.ListN.{get_or}
 use Rattle.isa.specs.Reads.{choose}
-use Rattle.tables.specs.Table.{look_up, store_under}
-use Rattle.tables.specs.Entry.{empty_entry, waiting_entry, sleep_entry, held}
+use Rattle.tables.specs.Entry.{empty_entry, held}
 use Rattle.tables.specs.declared.Entry.{Entry}
 use Rattle.renaming.specs.declared.Core.{Core}
-use Rattle.renaming.specs.Setters.{with_map, with_physical}
-use Rattle.renaming.specs.Changes.{entry_at, place, change_all}
 use Rattle.stealing.specs.Steal.{victim_among, victim_of, robbed}
 
 -- the search for a victim
 module _ (physical : List ℕ) (entries : List Entry) (position : ℕ) where
-  pub victim_none : victim_among 0 physical entries position ≡ position
+  victim_none : victim_among 0 physical entries position ≡ position
   unfolding victim_among
   victim_none = refl
 
-  pub victim_here : (n : ℕ) → (held physical (get_or entries (position + suc n) empty_entry) ≡ 0 → ⊥) → victim_among (suc n) physical entries position ≡ position + suc n
+  victim_here : (n : ℕ) → (held physical (get_or entries (position + suc n) empty_entry) ≡ 0 → ⊥) → victim_among (suc n) physical entries position ≡ position + suc n
   unfolding victim_among
   victim_here n h = rw (ne_eqb (held physical (get_or entries (position + suc n) empty_entry)) 0 h)
 
-  pub victim_next : (n : ℕ) → held physical (get_or entries (position + suc n) empty_entry) ≡ 0 → victim_among (suc n) physical entries position ≡ victim_among n physical entries position
+  victim_next : (n : ℕ) → held physical (get_or entries (position + suc n) empty_entry) ≡ 0 → victim_among (suc n) physical entries position ≡ victim_among n physical entries position
   unfolding victim_among
   victim_next n h = rw (eq-eqb (held physical (get_or entries (position + suc n) empty_entry)) 0 h)
 
@@ -46,18 +43,6 @@ module _ (physical : List ℕ) (entries : List Entry) (position : ℕ) where
 
   pub none_at : (k : ℕ) → k ≤ position → victim_among (k - position) physical entries position ≡ position
   none_at k l = let n : k - position ≡ 0 = omega arith in ap (λ (j : ℕ). victim_among j physical entries position) n ∙ victim_none
-
--- the victim waits again
-pub robbed_is : (m : Core) (victim : ℕ) (again : Entry) (shown : ℕ) (mapregister physical : List ℕ) (mapvalid : List Bool)
-    → let e : Entry = entry_at m victim in
-    again ≡ waiting_entry e
-    → shown ≡ look_up m.mapname e.destination
-    → mapregister ≡ choose (eqb shown e.name) (store_under m.mapregister e.destination 0) m.mapregister
-    → mapvalid ≡ choose (eqb shown e.name) (store_under m.mapvalid e.destination false) m.mapvalid
-    → physical ≡ store_under m.physical e.name 0
-    → change_all (sleep_entry e.name) (with_map m.mapname mapregister mapvalid (with_physical physical (place victim again m))) ≡ robbed victim m
-unfolding robbed
-robbed_is m victim again shown mapregister physical mapvalid a b c d f = rw (a, c, d, b, f)
 
 -- the victim is an entry
 victim_most : (n : ℕ) (physical : List ℕ) (entries : List Entry) (position : ℕ) → victim_among n physical entries position ≤ position + n

@@ -42,41 +42,12 @@ empty_entry =
     }
 
 abbrev pub with_operands : Entry → Operand → Operand → Entry
-with_operands e left right =
-    record {
-      instruction = e.instruction;
-      address = e.address;
-      predicted = e.predicted;
-      first = e.first;
-      second = e.second;
-      result = e.result;
-      left = left;
-      right = right;
-      destination = e.destination;
-      name = e.name;
-      previous = e.previous;
-      state = e.state;
-      stop = e.stop;
-    }
+with_operands e left right = record e { left = left; right = right }
 
 -- the state, the values read, the result, the cause and the predicted next address change
 abbrev pub entry_with : State → ℕ → ℕ → ℕ → Stop → ℕ → Entry → Entry
 entry_with state first second result why predicted e =
-    record {
-      instruction = e.instruction;
-      address = e.address;
-      predicted = predicted;
-      first = first;
-      second = second;
-      result = result;
-      left = e.left;
-      right = e.right;
-      destination = e.destination;
-      name = e.name;
-      previous = e.previous;
-      state = state;
-      stop = why;
-    }
+    record e { state = state; first = first; second = second; result = result; stop = why; predicted = predicted }
 
 -- with the values that it read
 abbrev pub issued_entry : ℕ → ℕ → Entry → Entry

@@ -2,6 +2,7 @@
 use Rattle.std.specs.Prelude.{ℕ, ◌+◌, ◌≤◌, List, [], ◌∷◌, ◌≡◌, eqb}
 use Rattle.isa.specs.Reads.{choose}
 use Rattle.tables.specs.Table.{look_up, store_under}
+use Rattle.tables.specs.declared.FreeList.{FreeList}
 
 -- "Taking takes the head (zero from an empty pool, which stays)": the head and the links afterwards. The link of a number outside its pool is zero.
 abbrev pub taken_head : List ℕ → ℕ → ℕ
@@ -16,6 +17,13 @@ freed_head head n = choose (eqb n 0) head n
 
 abbrev pub freed_link : List ℕ → ℕ → ℕ → List ℕ
 freed_link link head n = store_under link n head
+
+-- the pool after a number is taken, and after one is freed
+abbrev pub taken : FreeList → FreeList
+taken pool = record { head = taken_head pool.link pool.head; link = taken_link pool.link pool.head }
+
+abbrev pub freed : ℕ → FreeList → FreeList
+freed n pool = record { head = freed_head pool.head n; link = freed_link pool.link pool.head n }
 
 -- the chain from the head on is this list of numbers
 unfoldable pub Spells : List ℕ → ℕ → List ℕ → Type 0

@@ -2,4 +2,5 @@
 pub mod Table
 pub mod FreeList
 pub mod Operand
+pub mod GeneralMap
 pub mod Entry

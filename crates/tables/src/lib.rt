@@ -1,35 +1,55 @@
-// The tables that the renaming calls are made of: free lists, maps, operands, entries.
+// The tables that the renaming calls are made of: pools of free numbers, the general map, operands, entries.
 #![tactic(auto)]
 
 pub mod entries;
 pub mod free_list;
-pub mod maps;
+pub mod general_map;
 pub mod operands;
+pub mod table;
 
 use execution::Stop;
 use isa::Instruction;
 
-// The places of a table of registers or of names: 0, which is nobody's, and 1 to 95.
+// The places of a table of registers or of names: 0, which is nobody's, and 1 to 95. Zero means none in every field too: any
+// number may stand in a machine, so that none is an Option, and what document 01 says of zero is said of these numbers.
 pub const PLACES: usize = 96;
 
+// A pool of numbers as a chain: a head, and for each free number the next. It serves registers and names.
+// Document 01 has the chain, and the machine has no heap.
+#[derive(Clone, Copy, Debug, PartialEq, Eq)]
+pub struct FreeList {
+    pub head: u8,
+    pub link: [u8; PLACES],
+}
+
+// For each logical register a name, a register and a valid bit.
+#[derive(Clone, Copy, Debug, PartialEq, Eq)]
+pub struct GeneralMap {
+    pub names: [u8; 32],
+    pub registers: [u8; 32],
+    pub valid: [bool; 32],
+}
+
 // An operand is zero, waiting on a name, or ready with a name and a register.
-#[derive(Clone, Copy)]
+#[derive(Clone, Copy, Debug, PartialEq, Eq, Default)]
 pub enum Operand {
+    #[default]
     Zero,
     Waiting(u8),
     Ready(u8, u8),
 }
 
 // Waiting, issued or completed.
-#[derive(Clone, Copy)]
+#[derive(Clone, Copy, Debug, PartialEq, Eq, Default)]
 pub enum State {
+    #[default]
     Waits,
     Issued,
     Completed,
 }
 
-// An instruction in the window; 40 bytes.
-#[derive(Clone, Copy)]
+// An instruction in the window; 40 bytes. The default is a place past the last entry, all zeros.
+#[derive(Clone, Copy, Debug, PartialEq, Eq, Default)]
 pub struct Entry {
     pub instruction: Instruction,
     pub address: u32,

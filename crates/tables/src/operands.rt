@@ -1,75 +1,45 @@
-ghost use Rattle.std.specs.Prelude.{◌≡◌, length};
+ghost use Rattle.std.specs.Prelude.{◌≡◌};
 ghost use Rattle.tables.specs.Operand as Operands;
-ghost use Rattle.tables.specs.Table.{places};
 
-use crate::{Operand, PLACES, maps};
+use crate::{Operand, PLACES, table};
 
-// ready with this register where it is on this name. Inner: the calls and replay's loop use it.
-pub fn wake(operand: Operand, name: u8, register: u8) -> Operand
-    ensures { result ≡ Operands.wake name register operand }
-{
-    match operand {
-        Operand::Zero => Operand::Zero,
-        Operand::Waiting(n) => if n == name {
-            Operand::Ready(n, register)
-        } else {
-            Operand::Waiting(n)
-        },
-        Operand::Ready(n, r) => if n == name {
-            Operand::Ready(n, register)
-        } else {
-            Operand::Ready(n, r)
-        },
+impl Operand {
+    // Ready with this register where it is on this name. Inner: the calls use it.
+    pub fn wake(&mut self, name: u8, register: u8)
+        ensures { self.new ≡ Operands.wake name register self.old }
+    {
+        match *self {
+            Operand::Waiting(n) | Operand::Ready(n, _) if n == name => {
+                *self = Operand::Ready(n, register);
+            }
+            _ => {}
+        }
     }
-}
 
-// waiting again where it is on this name. Inner: the calls and replay's loop use it.
-pub fn sleep(operand: Operand, name: u8) -> Operand
-    ensures { result ≡ Operands.sleep name operand }
-{
-    match operand {
-        Operand::Zero => Operand::Zero,
-        Operand::Waiting(n) => Operand::Waiting(n),
-        Operand::Ready(n, r) => if n == name {
-            Operand::Waiting(n)
-        } else {
-            Operand::Ready(n, r)
-        },
+    // Waiting again where it is on this name. Inner: the calls use it.
+    pub fn sleep(&mut self, name: u8)
+        ensures { self.new ≡ Operands.sleep name self.old }
+    {
+        match *self {
+            Operand::Ready(n, _) if n == name => *self = Operand::Waiting(n),
+            _ => {}
+        }
     }
-}
 
-// Inner: the calls and replay's loop use it.
-pub fn is_ready(operand: Operand) -> bool
-    ensures { result ≡ Operands.is_ready operand }
-{
-    match operand {
-        Operand::Zero => true,
-        Operand::Waiting(_) => false,
-        Operand::Ready(_, _) => true,
+    // Inner: the calls use it.
+    pub fn is_ready(self) -> bool
+        ensures { result ≡ Operands.is_ready self }
+    {
+        !matches!(self, Operand::Waiting(_))
     }
-}
 
-// the value that an operand reads. Inner: the calls and replay's loop use it.
-pub fn value_of(values: &[u32; PLACES], operand: Operand) -> u32
-    requires { length values.now ≡ places }
-    ensures { result ≡ Operands.value_of values.now operand }
-{
-    match operand {
-        Operand::Zero => 0,
-        Operand::Waiting(_) => 0,
-        Operand::Ready(_, r) => maps::value(values, r),
+    // The value that it reads. Inner: issue uses it.
+    pub fn value_in(self, values: &[u32; PLACES]) -> u32
+        ensures { result ≡ Operands.value_of values.now self }
+    {
+        match self {
+            Operand::Zero | Operand::Waiting(_) => 0,
+            Operand::Ready(_, register) => table::look_under(0, values, register),
+        }
     }
-}
-
-// what the general map shows of a logical register: zero for x0, ready if valid. Inner: the calls and replay's loop use it.
-pub fn shown(logical: u8, name: u8, register: u8, valid: bool) -> Operand
-    ensures { result ≡ Operands.shown_operand logical name register valid }
-{
-    if logical == 0 {
-        return Operand::Zero;
-    }
-    if valid {
-        return Operand::Ready(name, register);
-    }
-    Operand::Waiting(name)
 }

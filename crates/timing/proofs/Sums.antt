@@ -1,36 +1,26 @@
--- One word of a round after the other, one round after the other.
-use Prim.Native.Nat.{ℕ, suc, ◌+◌, ◌*◌, ◌≤◌, ◌<◌}
-use mathlib.Core.Path.{◌≡◌, sym, ap, ◌∙◌}
-use mathlib.Core.List.{List}
-use native.Mathlib.Nat.{add-zero, add_assoc, suc-mul}
+-- The most that a round adds.
+use Prim.Native.Nat.{ℕ, zero, suc, ◌+◌, ◌≤◌}
+use mathlib.Core.Bool.{Bool, true, false}
 use native.Mathlib.Omega.{arith}
-use borrow.Author.Tests.{le-leb, lt-leb}
-use lib.ListN.{length, get_or, drop, drop_of_length-le}
-use lib.Seq.{drop-cons}
-use Rattle.isa.specs.Reads.{operation_of}
-use Rattle.timing.specs.Timing.{operations, found_of}
+use lib.ListN.{length, get_or}
+use Rattle.std.specs.Prelude.{List, ◌*◌}
+use Rattle.std.proofs.lemmas.List.Sums.{sum_by-le}
+use Rattle.isa.specs.Listing.{last}
+use Rattle.isa.specs.Reads.{choose, operation_from, operation_of}
+use Rattle.timing.specs.Timing.{operations}
 
-module _ (words : List ℕ) where
-  pub next : (k sum all found : ℕ) → k < length words → sum + operations (drop k words) ≡ all → found ≡ operation_of (get_or words k 0)
-      → sum + found + operations (drop (k + 1) words) ≡ all
-  unfolding operations
-  next k sum all found h e f =
-      let one : k + 1 ≡ suc k = omega arith in
-      let d : operations (drop k words) ≡ operation_of (get_or words k 0) + operations (drop (k + 1) words) = rw one (ap operations (drop-cons words k 0 h)) in
-      rw f (add_assoc sum (operation_of (get_or words k 0)) (operations (drop (k + 1) words))) ∙ ap (λ (x : ℕ). sum + x) (sym d) ∙ e
+either : (b : Bool) (x y most : ℕ) → x ≤ most → y ≤ most → choose b x y ≤ most
+either true x y most p q = p
+either false x y most p q = q
 
-  pub round_over : (k sum all round : ℕ) → length words ≤ k → sum + operations (drop k words) ≡ all + operations words → all ≡ round * operations words
-      → sum ≡ (round + 1) * operations words
-  unfolding operations
-  round_over k sum all round h e f =
-      let one : suc round ≡ round + 1 = omega arith in
-      let z : sum + operations (drop k words) ≡ sum = ap (λ (x : List ℕ). sum + operations x) (drop_of_length-le words {i = k} h) ∙ add-zero sum in
-      sym z ∙ e ∙ ap (λ (x : ℕ). x + operations words) f ∙ sym (suc-mul round (operations words)) ∙ ap (λ (x : ℕ). x * operations words) one
+from : (n operation word : ℕ) → operation_from n operation word ≤ n + operation
+unfolding operation_from
+from zero operation word = omega arith
+from (suc n) operation word =
+    let rest : operation_from n (operation + 1) word ≤ suc n + operation = omega (arith, from n (operation + 1) word) in
+    let here : operation ≤ suc n + operation = omega arith in
+    either _ operation (operation_from n (operation + 1) word) (suc n + operation) here rest
 
-  pub found : (rounds : ℕ) → length words ≤ 4_096 → rounds * operations words ≡ found_of rounds words
-  unfolding found_of
-  found rounds h = rw (le-leb (length words) 4_096 h)
-
-  pub too_many : (rounds : ℕ) → 4_096 < length words → 0 ≡ found_of rounds words
-  unfolding found_of
-  too_many rounds h = rw (lt-leb (length words) 4_096 h)
+pub round_most : (words : List ℕ) → length words ≤ 4_096 → operations words ≤ 4_096 * (last + 1)
+unfolding operation_of
+round_most words h = omega (arith, sum_by-le operation_of (last + 1) words (λ k d l. from last 1 (get_or words k d)))

@@ -1,5 +1,5 @@
 -- What the benchmark's functions come to.
-use Rattle.std.specs.Prelude.{ℕ, ◌+◌, ◌*◌, List, [], ◌∷◌, eqb, leb, length, replicate}
+use Rattle.std.specs.Prelude.{ℕ, ◌*◌, List, eqb, leb, length, replicate, sum_by}
 use Rattle.isa.specs.Reads.{choose, operation_of}
 use Rattle.execution.specs.Execute.{stop}
 use Rattle.reference.specs.Step.{State, state, length_refusal}
@@ -23,9 +23,8 @@ timed_of calls program memory =
     choose (eqb (length_refusal program memory) 0) (answer (run_of (calls * 65_535) program (start memory)) 0) (answer (ended (start memory) (stop 0)) (length_refusal program memory))
 
 -- the sum of the words' operation numbers, 0 for an illegal word
-unfoldable pub operations : List ℕ → ℕ
-operations [] = 0
-operations (word ∷ words) = operation_of word + operations words
+abbrev pub operations : List ℕ → ℕ
+operations words = sum_by operation_of words
 
 unfoldable pub found_of : ℕ → List ℕ → ℕ
 found_of rounds words = choose (leb (length words) 4_096) (rounds * operations words) 0

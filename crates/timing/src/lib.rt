@@ -1,12 +1,15 @@
 // Exported for the benchmark of the in-order run, docs/SPEED.md, and for nothing else.
 #![tactic(auto)]
 
-ghost use Rattle.std.specs.Prelude.{◌≡◌};
+ghost use Rattle.std.specs.Prelude.{◌≡◌, ◌≤◌, length};
 ghost use Rattle.timing.specs.Timing as Timing;
 
-// What many calls of the run come to: the steps of all of them, and document 01's cause and refusal.
+use refusals::Refusal;
+
+// What many calls of the run come to: the steps of all of them, and document 01's cause and refusal, which C takes as
+// numbers.
 #[repr(C)]
-#[derive(Clone, Copy)]
+#[derive(Clone, Copy, Debug, PartialEq, Eq, Default)]
 pub struct Timed {
     pub steps: u64,
     pub cause: u32,
@@ -19,19 +22,17 @@ pub struct Timed {
 pub extern "C" fn timing_run(program: &[u8], data: &mut [u8], calls: u32) -> Timed
     ensures { Timing.timed_of calls program.now «data».old ≡ record { answer = result; memory = «data».new } }
 {
-    let refusal = reference::lengths::refusal(program, data);
-    if refusal != 0 {
+    if let Err(refusal) = reference::lengths::check_lent(program, data) {
         return Timed {
             steps: 0,
             cause: 0,
-            refusal: refusal as u32,
+            refusal: u8::from(refusal) as u32,
         };
     }
     let mut values = [0u32; 32];
     let mut at: u32 = 0;
     let mut steps: u64 = 0;
-    let mut made: u32 = 0;
-    while made < calls {
+    for _ in 0..calls {
         let ran = reference::run(program, data, values, at, 65_535);
         steps += ran.steps as u64;
         let stop = ran.stop;
@@ -44,7 +45,6 @@ pub extern "C" fn timing_run(program: &[u8], data: &mut [u8], calls: u32) -> Tim
         }
         values = ran.registers;
         at = ran.address;
-        made += 1;
     }
     Timed {
         steps,
@@ -53,8 +53,20 @@ pub extern "C" fn timing_run(program: &[u8], data: &mut [u8], calls: u32) -> Tim
     }
 }
 
+// one round: the sum of the words' operation numbers
+fn operations(words: &[u32]) -> u64
+    requires { length words.now ≤ 4_096 }
+    ensures { result ≡ Timing.operations words.now }
+{
+    words
+        .iter()
+        .map(|&word| isa::operation::find(word).unwrap_or(0) as u64)
+        .sum()
+}
+
 // The sum of the words' operation numbers, found anew in each of the rounds; 0 above 4,096 words.
 #[unsafe(no_mangle)]
+#[tactic(auto, using(crate::proofs::Sums::round_most), unfolding(crate::specs::Timing::found_of))]
 pub extern "C" fn timing_find(words: &[u32], rounds: u32) -> u64
     ensures { result ≡ Timing.found_of rounds words.now }
 {
@@ -62,14 +74,8 @@ pub extern "C" fn timing_find(words: &[u32], rounds: u32) -> u64
         return 0;
     }
     let mut sum: u64 = 0;
-    let mut round: u32 = 0;
-    while round < rounds {
-        let mut k = 0;
-        while k < words.len() {
-            sum += isa::operation::find(words[k]) as u64;
-            k += 1;
-        }
-        round += 1;
+    for _ in 0..rounds {
+        sum += operations(words);
     }
     sum
 }

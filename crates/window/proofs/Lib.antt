@@ -1,4 +1,4 @@
--- Laws of the calls, of drain and of the report.
+-- Laws of the calls and of drain.
+pub mod LentLaws
 pub mod MakeLaws
 pub mod DrainLaws
-pub mod ReportLaws

@@ -5,10 +5,10 @@ use Rattle.tables.specs.declared.State.{State}
 use Rattle.tables.specs.declared.State.TheVariants.{Waits, Issued, Completed}
 use Rattle.renaming.specs.Changes.{entry_at}
 use Rattle.renaming.specs.declared.Core.{Core}
-use Rattle.decoding.specs.Decode.{decode_of}
-use Rattle.issuing.specs.Issue.{issue_of}
-use Rattle.completing.specs.Complete.{needs_register, none_free, complete_of}
-use Rattle.committing.specs.Commit.{commit_of}
+use Rattle.decoding.specs.Decode.{decode_within, decode_of}
+use Rattle.issuing.specs.Issue.{issue_within, issue_of}
+use Rattle.completing.specs.Complete.{needs_register, none_free, complete_within, complete_of}
+use Rattle.committing.specs.Commit.{commit_within, commit_of}
 use Rattle.window.specs.declared.Call.{Call}
 use Rattle.window.specs.declared.Call.TheVariants.{Decode, Issue, Complete, Commit}
 
@@ -17,13 +17,16 @@ pub record World : Type 0 where
   pub core : Core
   pub memory : List ℕ
 
+abbrev pub world_of : Core → List ℕ → World
+world_of m memory = record { core = m; memory = memory }
+
 -- what a call leaves, and its number
 pub record Made : Type 0 where
   pub world : World
   pub number : ℕ
 
 abbrev pub made_by : Core → List ℕ → ℕ → Made
-made_by m memory number = record { world = record { core = m; memory = memory }; number = number }
+made_by m memory number = record { world = world_of m memory; number = number }
 
 -- a call on lent program and data
 abbrev pub call_of : List ℕ → List ℕ → Call → Core → Made
@@ -35,6 +38,16 @@ call_of program memory Commit m = made_by (commit_of program memory m).answer.co
 -- a call is made with the data as the calls before left them
 unfoldable pub make : List ℕ → Call → World → Made
 make program call w = call_of program w.memory call w.core
+
+-- a call, where 5 and 6 do not apply
+abbrev pub call_within : List ℕ → List ℕ → Call → Core → Made
+call_within program memory (Decode guess) m = made_by (decode_within program guess m).core memory (decode_within program guess m).number
+call_within program memory (Issue position) m = made_by (issue_within memory position m).core memory (issue_within memory position m).number
+call_within program memory (Complete position) m = made_by (complete_within position m).core memory (complete_within position m).number
+call_within program memory Commit m = made_by (commit_within memory m).answer.core (commit_within memory m).memory (commit_within memory m).answer.number
+
+unfoldable pub make_within : List ℕ → Call → World → Made
+make_within program call w = call_within program w.memory call w.core
 
 -- "the calls that commit position 0": the one that its state still needs
 abbrev pub needed_by : State → Call

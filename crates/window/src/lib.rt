@@ -4,6 +4,7 @@
 pub mod calling;
 pub mod draining;
 pub mod making;
+pub mod numbering;
 pub mod reporting;
 pub mod setting;
 
@@ -20,7 +21,7 @@ pub struct Machine {
 }
 
 // A call, by its guess or position.
-#[derive(Clone, Copy)]
+#[derive(Clone, Copy, Debug, PartialEq, Eq)]
 pub enum Call {
     Decode(u32),
     Issue(usize),
@@ -28,14 +29,15 @@ pub enum Call {
     Commit,
 }
 
-// The machine after a set-up or a call, with 0 or a refusal.
+// The machine after a set-up or a call, with 0 or a refusal: no Result, since document 01 names a machine and a number,
+// and a refused call hands the machine back.
 #[derive(Clone, Copy)]
 pub struct Answer {
     pub machine: Machine,
     pub number: u8,
 }
 
-// The machine after a drain, how many calls were accepted, and 0 or the refusal that ended it.
+// The machine after a drain, how many calls were accepted, and 0 or the refusal that ended it, as in `Answer`.
 #[derive(Clone, Copy)]
 pub struct Drained {
     pub machine: Machine,
@@ -43,7 +45,7 @@ pub struct Drained {
     pub number: u8,
 }
 
-// The committed registers, element 0 being 0, with 0 or refusal 5.
+// The committed registers, element 0 being 0, with 0 or refusal 5: no Result, since a refused report has values, all 0.
 #[derive(Clone, Copy)]
 pub struct Report {
     pub registers: [u32; 32],

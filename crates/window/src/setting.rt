@@ -12,11 +12,17 @@ impl Machine {
     pub fn set_up(window: u32, registers: u32, program: usize, bytes: usize) -> Answer
         ensures { Handed.answer result ≡ set_up_of (setup_of window registers program bytes) }
     {
-        let answer = Core::set_up(window, registers, program, bytes);
-        let core = answer.core;
-        Answer {
-            machine: Machine { core },
-            number: answer.number,
+        match Core::set_up(window, registers, program, bytes) {
+            Ok(core) => Answer {
+                machine: Machine { core },
+                number: 0,
+            },
+            Err(refusal) => Answer {
+                machine: Machine {
+                    core: Core::zeros(),
+                },
+                number: refusal.into(),
+            },
         }
     }
 }

@@ -1,5 +1,4 @@
 -- Laws that proofs of this crate and of callers cite.
-pub mod Sign
 pub mod FieldLaws
 pub mod ExtendLaws
 pub mod BytesLaws

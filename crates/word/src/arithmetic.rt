@@ -1,20 +1,18 @@
 ghost use Rattle.std.specs.Prelude.{◌≡◌, ◌<◌};
 ghost use Rattle.word.specs.Arithmetic.{sum, difference, shift_left, shift_right, shift_right_signed, less_signed};
 
-use crate::signed;
-
 // Inner: the crates above use it.
 pub fn add(a: u32, b: u32) -> u32
     ensures { result ≡ sum a b }
 {
-    std::num::wrapping_add_u32(a, b)
+    a.wrapping_add(b)
 }
 
 // Inner: the crates above use it.
 pub fn sub(a: u32, b: u32) -> u32
     ensures { result ≡ difference a b }
 {
-    std::num::wrapping_sub_u32(a, b)
+    a.wrapping_sub(b)
 }
 
 // Inner: the crates above use it.
@@ -38,15 +36,12 @@ pub fn shift_right_signed(a: u32, count: u32) -> u32
     requires { count < 32 }
     ensures { result ≡ shift_right_signed a count }
 {
-    let number = signed::to_signed(a);
-    signed::to_word(number >> count)
+    (a.cast_signed() >> count).cast_unsigned()
 }
 
 // Inner: the crates above use it.
 pub fn less_signed(a: u32, b: u32) -> bool
     ensures { result ≡ less_signed a b }
 {
-    let x = signed::to_signed(a);
-    let y = signed::to_signed(b);
-    x < y
+    a.cast_signed() < b.cast_signed()
 }

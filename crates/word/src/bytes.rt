@@ -7,9 +7,7 @@ pub fn load(bytes: &[u8], at: usize, size: usize) -> u32
     ensures { (result ≡ number (byte_of bytes.now) at size) × (result < 256 ^ size) }
 {
     let mut value: u32 = 0;
-    let mut k = size;
-    while 0 < k {
-        k -= 1;
+    for k in (0..size).rev() {
         value = value * 256 + bytes[at + k] as u32;
     }
     value
@@ -21,10 +19,8 @@ pub fn store(bytes: &mut [u8], at: usize, size: usize, value: u32)
     ensures { bytes.new ≡ put bytes.old at size value }
 {
     let mut rest = value;
-    let mut k = 0;
-    while k < size {
+    for k in 0..size {
         bytes[at + k] = (rest % 256) as u8;
-        rest = rest / 256;
-        k += 1;
+        rest /= 256;
     }
 }

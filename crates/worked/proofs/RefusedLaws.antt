@@ -7,7 +7,7 @@ use lib.Dec.{eqb}
 use Rattle.renaming.specs.Call.{lent_refusal, in_turn, answered}
 use Rattle.renaming.specs.Changes.{entry_at}
 use Rattle.renaming.specs.declared.Core.{Core}
-use Rattle.renaming.specs.declared.Answer.{Answer}
+use Rattle.renaming.specs.Answer.{Answer}
 use Rattle.decoding.specs.Decode.{decode_refusal, decoded, decode_of}
 use Rattle.issuing.specs.Issue.{issue_refusal, issued, issue_of}
 use Rattle.completing.specs.Complete.{complete_refusal, completed, complete_of}

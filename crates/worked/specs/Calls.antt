@@ -51,7 +51,7 @@ state_at position w = state_number (entry_at w.core position).state
 
 -- the register that would be taken next, 0 from an empty pool
 abbrev pub free_register : World → ℕ
-free_register w = w.core.registerhead
+free_register w = w.core.free_registers.head
 
 abbrev pub next_address : World → ℕ
 next_address w = w.core.next

@@ -2,7 +2,7 @@
 use Rattle.std.specs.Prelude.{ℕ, ◌≡◌, Bool, not, ◌&&◌, List, [], ◌∷◌, eqb, replicate}
 use Rattle.isa.specs.Reads.{Numbers, read_of}
 use Rattle.isa.specs.declared.Instruction.{Instruction}
-use Rattle.execution.specs.Actions.{Alu}
+use Rattle.execution.specs.declared.Alu.{Alu}
 use Rattle.execution.specs.Execute.{compute, executed}
 use Rattle.reference.specs.Step.{State, Step, state, step_with}
 use Rattle.execution.specs.declared.Outcome.{Outcome}

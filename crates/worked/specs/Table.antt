@@ -3,7 +3,7 @@ use Rattle.std.specs.Prelude.{ℕ, Bool, true, ◌&&◌, List, [], ◌∷◌, po
 use Prim.Native.Char.{Char}
 use Rattle.isa.specs.Reads.{instruction, legal, illegal}
 use Rattle.isa.specs.Encodes.{minus}
-use Rattle.execution.specs.Actions.{ADD, SLT, SLTU, SRL, SRA}
+use Rattle.execution.specs.declared.Alu.TheVariants.{Add, Slt, Sltu, Srl, Sra}
 use Rattle.execution.specs.Execute.{stop, goes, stops}
 use Rattle.reference.specs.Step.{Step, reached}
 use Rattle.window.specs.declared.Call.TheVariants.{Complete as complete}
@@ -38,11 +38,11 @@ table =
     -- 0 illegal
     ∷ row "e" (reads 0 illegal)
     -- 0xFFFFFFFF + 1 = 0
-    ∷ row "f" (computes ADD 0xffff_ffff 1 0)
+    ∷ row "f" (computes Add 0xffff_ffff 1 0)
     -- 0x80000000 by 31: SRA 0xFFFFFFFF, SRL 1
-    ∷ row "g" (computes SRA 0x8000_0000 31 0xffff_ffff and computes SRL 0x8000_0000 31 1)
+    ∷ row "g" (computes Sra 0x8000_0000 31 0xffff_ffff and computes Srl 0x8000_0000 31 1)
     -- 0xFFFFFFFF against 0: SLT 1, SLTU 0
-    ∷ row "h" (computes SLT 0xffff_ffff 0 1 and computes SLTU 0xffff_ffff 0 0)
+    ∷ row "h" (computes Slt 0xffff_ffff 0 1 and computes Sltu 0xffff_ffff 0 0)
     -- JALR to 9 goes to 8; to 7, cause 5
     ∷ row "i" (executes (instruction 4 1 2 0 (pos 0)) 9 (goes 4 8) and executes (instruction 4 1 2 0 (pos 0)) 7 (stops 0 5))
     -- 16 data bytes: LW at 12 reads, at 13 and 16 cause 6; LB at 15 reads

@@ -2,7 +2,7 @@
 use Rattle.std.specs.Prelude.{◌≡◌, pos, replicate}
 use Rattle.isa.specs.Reads.{instruction, legal, illegal, read_of}
 use Rattle.isa.specs.Encodes.{minus}
-use Rattle.execution.specs.Actions.{ADD, SLT, SLTU, SRL, SRA}
+use Rattle.execution.specs.declared.Alu.TheVariants.{Add, Slt, Sltu, Srl, Sra}
 use Rattle.execution.specs.Execute.{goes, stops, compute, executed}
 use Rattle.reference.specs.Step.{step_with}
 use Rattle.window.specs.declared.Call.TheVariants.{Complete as complete}
@@ -16,9 +16,9 @@ pub record Worked : Type 0 where
   pub c : read_of 0x4020_81b3 ≡ legal (instruction 29 3 1 2 (pos 0))
   pub d : (read_of 0x0010_9093 ≡ legal (instruction 25 1 1 0 (pos 1))) also (read_of 0x0210_9093 ≡ illegal)
   pub e : read_of 0 ≡ illegal
-  pub f : compute ADD 0xffff_ffff 1 ≡ 0
-  pub g : (compute SRA 0x8000_0000 31 ≡ 0xffff_ffff) also (compute SRL 0x8000_0000 31 ≡ 1)
-  pub h : (compute SLT 0xffff_ffff 0 ≡ 1) also (compute SLTU 0xffff_ffff 0 ≡ 0)
+  pub f : compute Add 0xffff_ffff 1 ≡ 0
+  pub g : (compute Sra 0x8000_0000 31 ≡ 0xffff_ffff) also (compute Srl 0x8000_0000 31 ≡ 1)
+  pub h : (compute Slt 0xffff_ffff 0 ≡ 1) also (compute Sltu 0xffff_ffff 0 ≡ 0)
   pub i : (executed 16 (instruction 4 1 2 0 (pos 0)) 0 9 0 ≡ goes 4 8) also (executed 16 (instruction 4 1 2 0 (pos 0)) 0 7 0 ≡ stops 0 5)
   pub j : (step_with (instruction 13 1 0 0 (pos 12)) sixteen ≡ loads 0x0f0e_0d0c)
       also (step_with (instruction 13 1 0 0 (pos 13)) sixteen ≡ stops_by 6)

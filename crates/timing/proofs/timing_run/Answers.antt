@@ -1,62 +1,53 @@
 use Prim.Native.Nat.{ℕ, ◌+◌, ◌*◌, ◌-◌}
-use mathlib.Core.Path.{◌≡◌, refl, sym, ap, ◌∙◌}
-use native.Mathlib.Nat.{sub-zero}
+use mathlib.Core.Path.{◌≡◌, sym, ap, ◌∙◌}
 use native.Mathlib.Omega.{arith}
 use borrow.Author.Rules.{rules}
+use Rattle.refusals.specs.Numbers.{number_of}
 use Rattle.reference.specs.Step.{state}
 use Rattle.reference.specs.Run.{Run, after, run_of}
-use Rattle.reference.proofs.RunLaws.{after_zero}
-use Rattle.timing.specs.Timing.{answer, start}
+use Rattle.timing.specs.Timing.{answer}
 use Rattle.timing.proofs.Calls.{call_goes_on, call_stops, over, same_refusal, timed_refused, timed_accepted}
+use Rattle.timing.proofs.timing_run.Goals.{After-run-ran, After-loop}
 use Rattle.timing.proofs.timing_run.Goals as goal
 
-pub returns-then-refusal-ne0 : goal.returns-then-refusal-ne0
-returns-then-refusal-ne0 c =
+pub returns-in-Err : goal.returns-in-Err
+returns-in-Err c =
     let a = c.args in
-    timed_refused a.calls a.program.now a.«data».now c.refusal-refusal.result c.refusal-refusal.ensures c.if-refusal-ne0.true
-
-pub loop-made-init : goal.loop-made-init
-loop-made-init c =
-    let a = c.args in
-    let s = start a.«data».now in
-    (omega arith, omega arith, refl, after_zero (run_of ((a.calls - 0) * 65_535) a.program.now s) ∙ ap (λ (x : ℕ). run_of (x * 65_535) a.program.now s) (sub-zero a.calls))
+    let e = sym (ap number_of c.in-Err.is) ∙ c.check_lent.ensures in
+    timed_refused a.calls a.program.now a.«data».now c.in-Err.refusal e ∙ rw (← c.from.ensures)
 
 pub returns-then-stop-ne0 : goal.returns-then-stop-ne0
 returns-then-stop-ne0 c =
     let a = c.args in
-    let l = c.loop-made in
+    let l = c.loop in
     let s = state l.values l.at l.«data» in
-    let first = c.refusal-refusal in
     let r = c.run-ran in
-    let accepted = sym (same_refusal a.program.now l.«data» a.«data».now l.invariant.2 ∙ sym first.ensures ∙ c.if-refusal-ne0.false) in
-    let left : (a.calls - l.made) * 65_535 ≡ 65_535 + (a.calls - (l.made + 1)) * 65_535 = omega arith in
-    timed_accepted a.calls a.program.now a.«data».now first.result first.ensures c.if-refusal-ne0.false
-    ∙ ap (λ (x : Run). answer x 0) (sym l.invariant.3 ∙ ap (λ (x : ℕ). after l.steps (run_of x a.program.now s)) left)
-    ∙ call_stops 65_535 ((a.calls - (l.made + 1)) * 65_535) l.steps a.program.now s r.result _ accepted r.ensures c.if-stop-ne0.true
+    let accepted = sym (ap number_of c.in_default.is) ∙ c.check_lent.ensures in
+    let left : (a.calls - l.counter) * 65_535 ≡ 65_535 + (a.calls - (l.counter + 1)) * 65_535 = omega arith in
+    timed_accepted a.calls a.program.now a.«data».now accepted
+    ∙ ap (λ (x : Run). answer x 0) (sym l.invariant.2 ∙ ap (λ (x : ℕ). after l.steps (run_of x a.program.now s)) left)
+    ∙ call_stops 65_535 ((a.calls - (l.counter + 1)) * 65_535) l.steps a.program.now s r.result _ (accepted ∙ sym (same_refusal a.program.now l.«data» a.«data».now l.invariant.1)) r.ensures c.if-stop-ne0.true
 
-pub loop-made-preserved : goal.loop-made-preserved
-loop-made-preserved c =
+pub loop-preserved : goal.loop-preserved
+loop-preserved c =
     let a = c.args in
-    let l = c.loop-made in
+    let l = c.loop in
     let s = state l.values l.at l.«data» in
-    let first = c.refusal-refusal in
     let r = c.run-ran in
-    let accepted = sym (same_refusal a.program.now l.«data» a.«data».now l.invariant.2 ∙ sym first.ensures ∙ c.if-refusal-ne0.false) in
-    let left : (a.calls - l.made) * 65_535 ≡ 65_535 + (a.calls - (l.made + 1)) * 65_535 = omega arith in (
+    let accepted = sym (ap number_of c.in_default.is) ∙ c.check_lent.ensures in
+    let left : (a.calls - l.counter) * 65_535 ≡ 65_535 + (a.calls - (l.counter + 1)) * 65_535 = omega arith in (
       omega arith,
       search rules,
-      search rules,
-      call_goes_on 65_535 ((a.calls - (l.made + 1)) * 65_535) l.steps a.program.now s r.result _ accepted r.ensures c.if-stop-ne0.false
+      call_goes_on 65_535 ((a.calls - (l.counter + 1)) * 65_535) l.steps a.program.now s r.result _ (accepted ∙ sym (same_refusal a.program.now l.«data» a.«data».now l.invariant.1)) r.ensures c.if-stop-ne0.false
           ∙ ap (λ (x : ℕ). after l.steps (run_of x a.program.now s)) (sym left)
-          ∙ l.invariant.3,
+          ∙ l.invariant.2,
     )
 
 pub returns : goal.returns
 returns c =
     let a = c.args in
-    let l = c.loop-made in
+    let l = c.loop in
     let s = state l.values l.at l.«data» in
-    let first = c.refusal-refusal in
-    let none : (a.calls - l.made) * 65_535 ≡ 0 = omega arith in
-    timed_accepted a.calls a.program.now a.«data».now first.result first.ensures c.if-refusal-ne0.false
-    ∙ ap (λ (x : Run). answer x 0) (sym l.invariant.3 ∙ ap (λ (x : ℕ). after l.steps (run_of x a.program.now s)) none ∙ over l.steps a.program.now s)
+    let none : (a.calls - l.counter) * 65_535 ≡ 0 = omega arith in
+    timed_accepted a.calls a.program.now a.«data».now (sym (ap number_of c.in_default.is) ∙ c.check_lent.ensures)
+    ∙ ap (λ (x : Run). answer x 0) (sym l.invariant.2 ∙ ap (λ (x : ℕ). after l.steps (run_of x a.program.now s)) none ∙ over l.steps a.program.now s)

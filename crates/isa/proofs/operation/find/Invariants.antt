@@ -1,11 +1,8 @@
-use Prim.Native.Nat.{suc, ◌-◌, ◌≤◌}
+use Prim.Native.Nat.{suc, ◌-◌}
 use mathlib.Core.Path.{◌≡◌}
 use Rattle.isa.specs.Listing.{last}
 use Rattle.isa.specs.Reads.{operation_from, operation_of}
 use Rattle.isa.proofs.operation.find.Given as goal
 
 abbrev pub invariant-loop-operation : goal.invariant-loop-operation
-invariant-loop-operation l = (1 ≤ l.operation) × (l.operation ≤ suc last) × (operation_of l.word ≡ operation_from (suc last - l.operation) l.operation l.word)
-
-abbrev pub decreases-loop-operation : goal.decreases-loop-operation
-decreases-loop-operation l = suc last - l.operation
+invariant-loop-operation l = operation_of l.word ≡ operation_from (suc last - l.operation) l.operation l.word

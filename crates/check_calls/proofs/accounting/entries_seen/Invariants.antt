@@ -1,9 +1,0 @@
--- Safe and ends: the measure is the number of turns that are left.
-use Rattle.std.proofs.Common.{◌≡◌, ◌-◌, length}
-use Rattle.check_calls.proofs.accounting.entries_seen.Given as goal
-
-abbrev pub invariant-loop-k : goal.invariant-loop-k
-invariant-loop-k l = (length l.registers ≡ length l.initial.registers) × (length l.names ≡ length l.initial.names)
-
-abbrev pub decreases-loop-k : goal.decreases-loop-k
-decreases-loop-k l = 64 - l.k

@@ -1,9 +1,0 @@
--- Safe and ends: the measure is the number of turns that are left.
-use Rattle.std.proofs.Common.{◌-◌}
-use Rattle.check_calls.proofs.resting.entries_rest.Given as goal
-
-abbrev pub invariant-loop-k : goal.invariant-loop-k
-invariant-loop-k l = Unit {0}
-
-abbrev pub decreases-loop-k : goal.decreases-loop-k
-decreases-loop-k l = 64 - l.k

@@ -1,5 +1,0 @@
-use Rattle.decoding.proofs.ended.Goals as goal
-
-pub returns : goal.returns
-returns c =
-    rw c.add.ensures

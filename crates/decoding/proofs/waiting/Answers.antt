@@ -1,5 +1,0 @@
-use Rattle.decoding.proofs.waiting.Goals as goal
-
-pub returns : goal.returns
-returns c =
-    rw c.destination_of.ensures

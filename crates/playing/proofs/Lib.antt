@@ -1,1 +1,0 @@
--- The loop has no laws of its own.

@@ -1,0 +1,3 @@
+-- Laws that proofs of the crates above cite.
+pub mod NumberLaws
+pub mod Laws

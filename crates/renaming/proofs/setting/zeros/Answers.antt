@@ -1,5 +1,0 @@
-use Rattle.renaming.proofs.setting.zeros.Goals as goal
-
-pub returns : goal.returns
-returns c =
-    rw c.empty.ensures
