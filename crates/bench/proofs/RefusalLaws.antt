@@ -20,7 +20,6 @@ use Rattle.renaming.specs.Answer.{Answer}
 use Rattle.renaming.specs.declared.Core.{Core}
 use Rattle.formats.specs.Schedule.{record_length, schedule_fits, malformed, head_refusal, window_in, registers_in}
 use Rattle.formats.specs.Chain.{schedule_refusal}
-use Rattle.formats.proofs.HeadLaws.{at_least}
 use Rattle.renaming.proofs.RefusalLaws.{passed, both_none}
 use Rattle.formats.specs.Result.{result_length}
 use Rattle.events.specs.Play.{setup_in, Ready}
@@ -29,9 +28,6 @@ use Rattle.bench.specs.Replay.{replay_refusal}
 pub head_fits : (schedule : List ℕ) → head_refusal schedule ≡ 0 → schedule_fits (length schedule) ≡ true
 unfolding head_refusal
 head_fits schedule e = not-false _ (passed (not (schedule_fits (length schedule))) 20 (when (malformed schedule) 21 ∷ []) refl e).0
-
-pub head_long : (schedule : List ℕ) → head_refusal schedule ≡ 0 → record_length ≤ length schedule
-head_long schedule e = at_least (length schedule) (head_fits schedule e)
 
 alone : (n : ℕ) (b : Bool) → eqb n 0 ≡ b → n ≡ choose b 0 n
 alone n true z = eqb-true n 0 z

@@ -7,7 +7,7 @@ ghost use Rattle.bench.specs.Replay as Replay;
 use crate::Replayed;
 use reference::lengths;
 use refusals::Refusal;
-use renaming::Core;
+use renaming::{Core, Dimensions};
 use window::Machine;
 
 // The machine of the set-up; or the first refusal, before any event.
@@ -21,9 +21,12 @@ fn begun(program: &[u8], data: &[u8], schedule: &[u8], size: usize) -> Result<Co
         return Err(Refusal::ResultLength);
     }
     formats::check_head(schedule)?;
-    let window = formats::window_in(schedule) as u32;
-    let registers = formats::registers_in(schedule) as u32;
-    let core = Core::set_up(window, registers, program.len(), data.len())?;
+    let core = Core::set_up(Dimensions {
+        window: formats::window_in(schedule) as u32,
+        registers: formats::registers_in(schedule) as u32,
+        program: program.len(),
+        bytes: data.len(),
+    })?;
     formats::check_chain(schedule)?;
     Ok(core)
 }
@@ -40,7 +43,7 @@ fn figures(mut core: Core, program: &[u8], data: &mut [u8], schedule: &[u8]) -> 
     Replayed {
         counts,
         rate: formats::rate(counts.committed, counts.accepted),
-        halt: core.halt.cause as u32,
+        halt: core.halt.cause.into(),
         next: core.next,
         registers,
     }

@@ -17,10 +17,7 @@ pub extern "C" fn cirnhogul_replay(
 ) -> u32
     ensures { Exported.numbered (replay_of program.now «data».old schedule.now res.old) ≡ record { number = result; memory = «data».new; result = res.new } }
 {
-    match bench::replay(program, data, schedule, res) {
-        Ok(_) => 0,
-        Err(refusal) => u32::from(u8::from(refusal)),
-    }
+    refusals::number_of(&bench::replay(program, data, schedule, res)).into()
 }
 
 // The word of these fields: refusal × 2^32 + word.
@@ -36,6 +33,6 @@ pub extern "C" fn cirnhogul_encode(
 {
     match isa::encode(operation, rd, rs1, rs2, constant) {
         Ok(word) => u64::from(word),
-        Err(refusal) => u64::from(u8::from(refusal)) * 0x1_0000_0000,
+        Err(refusal) => u64::from(u32::from(refusal)) * 0x1_0000_0000,
     }
 }

@@ -1,8 +1,7 @@
 // Commit: the oldest entry leaves the window.
 #![tactic(auto)]
 
-ghost use Rattle.std.specs.Prelude.{◌≡◌, ◌≤◌, ◌<◌, OnOk};
-ghost use Rattle.refusals.specs.Numbers.{number_of};
+ghost use Rattle.std.specs.Prelude.{◌≡◌, ◌≤◌, ◌<◌};
 ghost use Rattle.renaming.specs.Answer.{answer};
 ghost use Rattle.renaming.specs.Setters.{with_entries};
 ghost use Rattle.committing.specs.Commit as Commit;
@@ -12,25 +11,6 @@ use execution::Stop;
 use refusals::Refusal;
 use renaming::Core;
 use tables::{Entry, State, table};
-
-// 10, 12 and 13. Issue, complete and commit begin alike: one function over the state would be no plainer, since each has
-// its own list.
-#[tactic(auto, unfolding(crate::specs::Commit::commit_refusal, reference::specs::Step::first))]
-fn check(core: &Core) -> Result<(), Refusal>
-    ensures number { number_of result ≡ Commit.commit_refusal core.now }
-    ensures some { OnOk result (0 < core.now.count) }
-{
-    if core.halt.cause != 0 {
-        return Err(Refusal::Halted);
-    }
-    if core.count == 0 {
-        return Err(Refusal::NoEntry);
-    }
-    if core.entries[0].state != State::Completed {
-        return Err(Refusal::WrongState);
-    }
-    Ok(())
-}
 
 // all entries one place down
 fn move_down(core: &mut Core)
@@ -71,14 +51,14 @@ fn stop_with(core: &mut Core, stop: Stop)
 }
 
 // Commit, where 5 and 6 do not apply. Inner: `window` uses it.
-#[tactic(auto, unfolding(crate::specs::Commit::commit_within))]
+#[tactic(auto, unfolding(crate::specs::Commit::commit_within, crate::specs::Commit::commit_refusal, renaming::specs::Call::entry_refusal))]
 pub fn commit_within(core: &mut Core, data: &mut [u8]) -> Result<(), Refusal>
     requires { core.old.count ≤ most_entries }
     ensures { Commit.commit_within «data».old core.old ≡ record { answer = answer core.new result; memory = «data».new } }
 {
-    check(core)?;
+    core.check_entry(0, State::Completed)?;
     let e = core.entries[0];
-    if e.stop.cause != 0 {
+    if e.stop != Stop::NONE {
         stop_with(core, e.stop);
     } else {
         execution::store(e.instruction, data, e.first, e.second);

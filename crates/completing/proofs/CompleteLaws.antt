@@ -5,25 +5,22 @@ use mathlib.Core.Bool.{Bool, true, false, not, ◌&&◌}
 use mathlib.Core.List.{List, [], ◌∷◌}
 use borrow.Author.Tests.{eq-eqb, ne_eqb}
 use Rattle.reference.specs.Step.{when, first}
+use Rattle.tables.specs.declared.State.TheVariants.{Issued}
 use Rattle.tables.specs.Entry.{is_issued, stopped_entry}
 use Rattle.renaming.specs.declared.Core.{Core}
-use Rattle.renaming.specs.Call.{halted, no_entry, lent_refusal, in_turn, answered}
+use Rattle.renaming.specs.Call.{halted, no_entry, entry_refusal, lent_refusal, in_turn, answered}
 use Rattle.renaming.specs.Changes.{entry_at, place}
-use Rattle.completing.specs.Complete.{outcome_at, has_destination, needs_register, none_free, entry_refusal, register_refusal, complete_refusal, learned, registered, redirected, completed, complete_within, complete_of}
+use Rattle.completing.specs.Complete.{outcome_at, has_destination, needs_register, none_free, register_refusal, complete_refusal, learned, registered, redirected, completed, complete_within, complete_of}
 use Rattle.stealing.specs.Steal.{no_victim}
-use Rattle.renaming.proofs.RefusalLaws.{answered_refused, answered_next, lent_first, own_next}
+use Rattle.renaming.proofs.RefusalLaws.{answered_refused, answered_next, lent_first, own_next, first_append}
 
 pub learned_count : (position register result : ℕ) (m : Core) → (learned position register result m).count ≡ m.count
 unfolding learned
 learned_count position register result m = refl
 
--- the refusals in two parts: what the entry meets, and what its register meets
-parts : (a b c d : Bool) → first (when a 10 ∷ when b 12 ∷ when c 13 ∷ when d 16 ∷ []) ≡ in_turn (first (when a 10 ∷ when b 12 ∷ when c 13 ∷ [])) (when d 16)
+alone : (n : ℕ) → first (n ∷ []) ≡ n
 unfolding first
-parts true b c d = refl
-parts false true c d = refl
-parts false false true d = refl
-parts false false false d = refl
+alone n = sym (own_next 0 n refl)
 
 without_cause : (a c d : Bool) → a && true && c && d ≡ a && c && d
 without_cause true c d = refl
@@ -40,9 +37,12 @@ module _ (position : ℕ) (m : Core) where
   abbrev own : ℕ
   own = when (needs_register m position && none_free m && no_victim m position) 16
 
-  refusal_parts : complete_refusal position m ≡ in_turn (entry_refusal position m) own
+  -- the refusals in two parts: what the entry meets, and what its register meets
+  refusal_parts : complete_refusal position m ≡ in_turn (entry_refusal Issued position m) own
   unfolding complete_refusal entry_refusal
-  refusal_parts = parts (halted m) (no_entry m position) (not (is_issued (entry_at m position).state)) (needs_register m position && none_free m && no_victim m position)
+  refusal_parts =
+      let leading : List ℕ = when (halted m) 10 ∷ when (no_entry m position) 12 ∷ when (not (is_issued (entry_at m position).state)) 13 ∷ [] in
+      first_append leading (own ∷ []) ∙ ap (in_turn (first leading)) (alone own)
 
   own_goes : cause ≡ 0 → own ≡ register_refusal position m
   own_goes z = rw (eq-eqb cause 0 z) (ap (λ (b : Bool). when b 16) (without_cause (has_destination m position) (none_free m) (no_victim m position)))
@@ -51,15 +51,15 @@ module _ (position : ℕ) (m : Core) where
   own_stops z = rw (ne_eqb cause 0 z) (ap (λ (b : Bool). when b 16) (with_cause (has_destination m position) (none_free m) (no_victim m position)))
 
   -- what complete answers, in each of the ways
-  pub refused_entry : (refusal : ℕ) → refusal ≡ entry_refusal position m → (refusal ≡ 0 → ⊥) → record { core = m; number = refusal } ≡ complete_within position m
+  pub refused_entry : (refusal : ℕ) → refusal ≡ entry_refusal Issued position m → (refusal ≡ 0 → ⊥) → record { core = m; number = refusal } ≡ complete_within position m
   unfolding complete_within
   refused_entry refusal e h =
       answered_refused m (completed position m) (complete_refusal position m) refusal
-      (e ∙ lent_first (entry_refusal position m) own (λ z. h (e ∙ z)) ∙ sym refusal_parts) h
+      (e ∙ lent_first (entry_refusal Issued position m) own (λ z. h (e ∙ z)) ∙ sym refusal_parts) h
 
-  module _ (issued : 0 ≡ entry_refusal position m) where
+  module _ (issued : 0 ≡ entry_refusal Issued position m) where
     refusal_own : own ≡ complete_refusal position m
-    refusal_own = own_next (entry_refusal position m) own (sym issued) ∙ sym refusal_parts
+    refusal_own = own_next (entry_refusal Issued position m) own (sym issued) ∙ sym refusal_parts
 
     pub stops : (cause ≡ 0 → ⊥) → record { core = place position (stopped_entry (outcome_at m position).stop (entry_at m position)) m; number = 0 } ≡ complete_within position m
     unfolding complete_within

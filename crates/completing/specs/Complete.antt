@@ -43,10 +43,6 @@ complete_refusal position m =
     ∷ when (needs_register m position && none_free m && no_victim m position) 16
     ∷ [])
 
--- 10, 12 and 13, which need no outcome
-unfoldable pub entry_refusal : ℕ → Core → ℕ
-entry_refusal position m = first (when (halted m) 10 ∷ when (no_entry m position) 12 ∷ when (not (is_issued (entry_at m position).state)) 13 ∷ [])
-
 -- 16, for an entry without a cause
 abbrev pub register_refusal : ℕ → Core → ℕ
 register_refusal position m = when (has_destination m position && none_free m && no_victim m position) 16

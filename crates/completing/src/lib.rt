@@ -1,10 +1,9 @@
 // Complete: an entry gets its result and a register, free or stolen.
 #![tactic(auto)]
 
-ghost use Rattle.std.specs.Prelude.{◌≡◌, true, false, not, ◌&&◌, ◌≤◌, ◌<◌, IfOk, IfErr, OnOk};
-ghost use Rattle.refusals.specs.Numbers.{number, number_of};
+ghost use Rattle.std.specs.Prelude.{◌≡◌, true, false, not, ◌&&◌, ◌≤◌, ◌<◌, IfOk, IfErr};
+ghost use Rattle.refusals.specs.Numbers.{number};
 ghost use Rattle.renaming.specs.Answer.{answer};
-ghost use Rattle.renaming.specs.Changes.{entry_at};
 ghost use Rattle.completing.specs.Complete as Complete;
 ghost use Rattle.completing.specs.Complete.{needs_register, none_free};
 ghost use Rattle.stealing.specs.Steal.{no_victim};
@@ -15,26 +14,6 @@ use refusals::Refusal;
 use renaming::Core;
 use renaming::changing::Wake;
 use tables::{State, table};
-
-// 10, 12 and 13, which need no outcome. Issue, complete and commit begin alike: one function over the state would be no
-// plainer, since each has its own list.
-#[tactic(auto, unfolding(crate::specs::Complete::entry_refusal, reference::specs::Step::first))]
-fn check(core: &Core, position: usize) -> Result<(), Refusal>
-    requires { core.now.count ≤ most_entries }
-    ensures number { number_of result ≡ Complete.entry_refusal position core.now }
-    ensures inside { OnOk result (position < core.now.count) }
-{
-    if core.halt.cause != 0 {
-        return Err(Refusal::Halted);
-    }
-    if core.count as usize <= position {
-        return Err(Refusal::NoEntry);
-    }
-    if core.entries[position].state != State::Issued {
-        return Err(Refusal::WrongState);
-    }
-    Ok(())
-}
 
 // what the values read come to
 fn outcome_at(core: &Core, position: usize) -> Outcome
@@ -132,7 +111,7 @@ pub fn complete_within(core: &mut Core, position: usize) -> Result<bool, Refusal
     ensures answer { answer core.new result ≡ Complete.complete_within position core.old }
     ensures stole { IfOk result (λ stole. stole ≡ (needs_register core.old position && none_free core.old)) }
 {
-    check(core, position)?;
+    core.check_entry(position, State::Issued)?;
     let outcome = outcome_at(core, position);
     if outcome.stop.cause != 0 {
         core.entries[position].end(outcome.stop);

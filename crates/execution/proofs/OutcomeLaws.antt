@@ -1,20 +1,22 @@
 -- What every outcome of an instruction keeps to.
 use Prim.Native.Nat.{ℕ, ◌+◌, ◌*◌, ◌/◌, ◌%◌, ◌≤◌}
-use mathlib.Core.Path.{◌≡◌, refl, subst}
+use mathlib.Core.Path.{◌≡◌, refl}
 use mathlib.Core.Bool.{Bool, true, false}
 use native.Mathlib.Omega.{arith}
-use lib.Dec.{T, leb, eqb, leb→le}
+use lib.Dec.{leb, eqb}
 use Rattle.laws.proofs.Bools.{and_right}
-use Rattle.laws.proofs.Table.{anywhere}
 use Rattle.isa.specs.Reads.{choose}
 use Rattle.isa.specs.declared.Instruction.{Instruction}
 use Rattle.word.specs.Arithmetic.{sum}
 use Rattle.word.specs.Signed.{word_of}
+use Rattle.execution.specs.declared.Cause.{Cause}
+use Rattle.execution.specs.declared.Cause.TheVariants.{Illegal, EnvironmentCall, Breakpoint, Fetch, Target, Load, Store}
+use Rattle.execution.specs.Causes.{cause_number}
 use Rattle.execution.specs.declared.Computation.{Computation}
 use Rattle.execution.specs.declared.Computation.TheVariants.{Upper, UpperAddress, Jump, JumpRegister, Branch, Immediate, Register}
 use Rattle.execution.specs.declared.Action.{Action}
 use Rattle.execution.specs.declared.Action.TheVariants.{Computes, LoadsSigned, LoadsUnsigned, Stores, Stops}
-use Rattle.execution.specs.Actions.{actions, action_of}
+use Rattle.execution.specs.Actions.{action_of}
 use Rattle.execution.specs.Memory.{accessible, ends_within_by, store_ends_within}
 use Rattle.execution.specs.Execute.{goes, stops, jumps, onward, holds, performed, executed_by, executed}
 use Rattle.execution.specs.declared.Outcome.{Outcome}
@@ -52,28 +54,26 @@ proper_access : (b : Bool) (address cause result : ℕ) → cause ≤ 7 → Prop
 proper_access b address cause result h =
     proper_choose address b (goes result (onward address)) (stops address cause) (proper_goes address result (onward address)) (proper_stops address cause h)
 
-proper_by : (a : Action) (bytes address c first second : ℕ) → ((cause : ℕ) → a ≡ Stops cause → cause ≤ 7) → Proper address (executed_by a bytes address c first second)
-unfolding executed_by
-proper_by (Computes computation) bytes address c first second h = proper_performed computation address c first second
-proper_by (LoadsSigned size) bytes address c first second h = proper_access (accessible bytes (sum first c) size) address 6 second (omega arith)
-proper_by (LoadsUnsigned size) bytes address c first second h = proper_access (accessible bytes (sum first c) size) address 6 second (omega arith)
-proper_by (Stores size) bytes address c first second h = proper_access (accessible bytes (sum first c) size) address 7 0 (omega arith)
-proper_by (Stops cause) bytes address c first second h = proper_stops address cause (h cause refl)
-
 -- the causes of operations that stop
-abbrev stops_small : Action → Bool
-stops_small (Computes computation) = true
-stops_small (LoadsSigned size) = true
-stops_small (LoadsUnsigned size) = true
-stops_small (Stores size) = true
-stops_small (Stops cause) = leb cause 7
+cause_small : (cause : Cause) → cause_number cause ≤ 7
+cause_small Illegal = omega arith
+cause_small EnvironmentCall = omega arith
+cause_small Breakpoint = omega arith
+cause_small Fetch = omega arith
+cause_small Target = omega arith
+cause_small Load = omega arith
+cause_small Store = omega arith
 
-stop_cause : (operation cause : ℕ) → action_of operation ≡ Stops cause → cause ≤ 7
-stop_cause operation cause e = leb→le cause 7 (subst (λ (a : Action). T (stops_small a)) e (anywhere stops_small actions (Stops 1) tt tt operation))
+proper_by : (a : Action) (bytes address c first second : ℕ) → Proper address (executed_by a bytes address c first second)
+unfolding executed_by
+proper_by (Computes computation) bytes address c first second = proper_performed computation address c first second
+proper_by (LoadsSigned size) bytes address c first second = proper_access (accessible bytes (sum first c) size) address 6 second (omega arith)
+proper_by (LoadsUnsigned size) bytes address c first second = proper_access (accessible bytes (sum first c) size) address 6 second (omega arith)
+proper_by (Stores size) bytes address c first second = proper_access (accessible bytes (sum first c) size) address 7 0 (omega arith)
+proper_by (Stops cause) bytes address c first second = proper_stops address (cause_number cause) (cause_small cause)
 
 pub executed_proper : (bytes : ℕ) (i : Instruction) (address first second : ℕ) → Proper address (executed bytes i address first second)
-executed_proper bytes i address first second =
-    proper_by (action_of i.operation) bytes address (word_of i.constant) first second (stop_cause i.operation)
+executed_proper bytes i address first second = proper_by (action_of i.operation) bytes address (word_of i.constant) first second
 
 -- a store that ended without a cause stays within the data
 accessible_ends : (bytes address size : ℕ) → accessible bytes address size ≡ true → leb (address + size) bytes ≡ true

@@ -2,13 +2,14 @@
 use Rattle.std.specs.Prelude.{List, [], ◌∷◌, ℕ, get_or}
 use Rattle.execution.specs.declared.Alu.TheVariants.{Add, Sub, Sll, Slt, Sltu, Xor, Srl, Sra, Or, And}
 use Rattle.execution.specs.declared.Condition.TheVariants.{Eq, Ne, Lt, Ge, Ltu, Geu}
+use Rattle.execution.specs.declared.Cause.TheVariants.{Illegal, EnvironmentCall, Breakpoint}
 use Rattle.execution.specs.declared.Computation.TheVariants.{Upper, UpperAddress, Jump, JumpRegister, Branch, Immediate, Register}
 use Rattle.execution.specs.declared.Action.{Action}
 use Rattle.execution.specs.declared.Action.TheVariants.{Computes, LoadsSigned, LoadsUnsigned, Stores, Stops}
 
 abbrev pub actions : List Action
 actions =
-    Stops 1  -- 0 is no operation
+    Stops Illegal  -- 0 is no operation
     ∷ Computes Upper  -- 1 LUI
     ∷ Computes UpperAddress  -- 2 AUIPC
     ∷ Computes Jump  -- 3 JAL
@@ -46,9 +47,9 @@ actions =
     ∷ Computes (Register Sra)  -- 35 SRA
     ∷ Computes (Register Or)  -- 36 OR
     ∷ Computes (Register And)  -- 37 AND
-    ∷ Stops 2  -- 38 ECALL
-    ∷ Stops 3  -- 39 EBREAK
+    ∷ Stops EnvironmentCall  -- 38 ECALL
+    ∷ Stops Breakpoint  -- 39 EBREAK
     ∷ []
 
 abbrev pub action_of : ℕ → Action
-action_of operation = get_or actions operation (Stops 1)
+action_of operation = get_or actions operation (Stops Illegal)

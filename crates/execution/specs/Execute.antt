@@ -14,6 +14,7 @@ use Rattle.execution.specs.declared.Computation.{Computation}
 use Rattle.execution.specs.declared.Computation.TheVariants.{Upper, UpperAddress, Jump, JumpRegister, Branch, Immediate, Register}
 use Rattle.execution.specs.declared.Action.{Action}
 use Rattle.execution.specs.declared.Action.TheVariants.{Computes, LoadsSigned, LoadsUnsigned, Stores, Stops}
+use Rattle.execution.specs.Causes.{cause_number}
 use Rattle.execution.specs.Actions.{action_of}
 use Rattle.execution.specs.Memory.{accessible}
 use Rattle.execution.specs.declared.Stop.{Stop}
@@ -72,7 +73,7 @@ executed_by (Computes computation) bytes address c first second = performed comp
 executed_by (LoadsSigned size) bytes address c first second = choose (accessible bytes (sum first c) size) (goes second (onward address)) (stops address 6)
 executed_by (LoadsUnsigned size) bytes address c first second = choose (accessible bytes (sum first c) size) (goes second (onward address)) (stops address 6)
 executed_by (Stores size) bytes address c first second = choose (accessible bytes (sum first c) size) (goes 0 (onward address)) (stops address 7)
-executed_by (Stops cause) bytes address c first second = stops address cause
+executed_by (Stops cause) bytes address c first second = stops address (cause_number cause)
 
 abbrev pub executed : ℕ → Instruction → ℕ → ℕ → ℕ → Outcome
 executed bytes i address first second = executed_by (action_of i.operation) bytes address (word_of i.constant) first second

@@ -7,6 +7,7 @@ use Rattle.execution.specs.declared.Computation.{Computation}
 use Rattle.execution.specs.declared.Computation.TheVariants.{Upper, UpperAddress, Jump, JumpRegister, Branch, Immediate, Register}
 use Rattle.execution.specs.declared.Action.{Action}
 use Rattle.execution.specs.declared.Action.TheVariants.{Computes, LoadsSigned, LoadsUnsigned, Stores, Stops}
+use Rattle.execution.specs.Causes.{cause_number}
 use Rattle.execution.specs.Actions.{action_of}
 use Rattle.execution.specs.Execute.{stop, onward}
 use Rattle.execution.specs.declared.Stop.{Stop}
@@ -37,7 +38,7 @@ stop_by (Computes computation) = stop 0
 stop_by (LoadsSigned size) = stop 0
 stop_by (LoadsUnsigned size) = stop 0
 stop_by (Stores size) = stop 0
-stop_by (Stops cause) = stop cause
+stop_by (Stops cause) = stop (cause_number cause)
 
 abbrev pub stop_at_once : Instruction → Stop
 stop_at_once i = stop_by (action_of i.operation)

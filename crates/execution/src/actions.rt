@@ -5,6 +5,7 @@ ghost use Rattle.execution.specs.Memory.{Loadable};
 use crate::Action;
 use crate::Action::{Computes, LoadsSigned, LoadsUnsigned, Stops, Stores};
 use crate::Alu::{Add, And, Or, Sll, Slt, Sltu, Sra, Srl, Sub, Xor};
+use crate::Cause::{Breakpoint, EnvironmentCall, Illegal};
 use crate::Computation::{Branch, Immediate, Jump, JumpRegister, Register, Upper, UpperAddress};
 use crate::Condition::{Eq, Ge, Geu, Lt, Ltu, Ne};
 
@@ -52,8 +53,8 @@ pub fn action(operation: u8) -> Action
         35 => Computes(Register(Sra)), // SRA
         36 => Computes(Register(Or)), // OR
         37 => Computes(Register(And)), // AND
-        38 => Stops(2), // ECALL
-        39 => Stops(3), // EBREAK
-        0 | 40.. => Stops(1), // no operation
+        38 => Stops(EnvironmentCall), // ECALL
+        39 => Stops(Breakpoint), // EBREAK
+        0 | 40.. => Stops(Illegal), // no operation
     }
 }

@@ -1,9 +1,13 @@
 ghost use Rattle.std.specs.Prelude.{◌≡◌};
+ghost use Rattle.word.specs.Arithmetic.{sum};
 ghost use Rattle.isa.specs.Reads.{choose};
+ghost use Rattle.execution.specs.Causes.{cause_number};
 ghost use Rattle.execution.specs.Execute as Execute;
 ghost use Rattle.execution.specs.Memory as Memory;
 
-use crate::{Action, Computation, Condition, Outcome, Stop, actions, arithmetic, memory};
+use crate::{
+    Action, Cause, Computation, Condition, Inputs, Outcome, Stop, actions, arithmetic, memory,
+};
 use isa::Instruction;
 
 fn onward(address: u32) -> u32
@@ -18,96 +22,95 @@ fn goes(value: u32, next: u32) -> Outcome
     Outcome {
         result: value,
         next,
-        stop: Stop { cause: 0 },
+        stop: Stop::NONE,
     }
 }
 
-fn stops(address: u32, cause: u8) -> Outcome
-    ensures { result ≡ Execute.stops address cause }
+fn stops(address: u32, cause: Cause) -> Outcome
+    ensures { result ≡ Execute.stops address (cause_number cause) }
 {
     Outcome {
         result: 0,
         next: address,
-        stop: Stop { cause },
+        stop: cause.into(),
     }
 }
 
-fn jumps(address: u32, value: u32, target: u32) -> Outcome
-    ensures { result ≡ Execute.jumps address value target }
+fn jumps(given: Inputs, value: u32, target: u32) -> Outcome
+    ensures { result ≡ Execute.jumps given.address value target }
 {
     if target % 4 == 0 {
         goes(value, target)
     } else {
-        stops(address, 5)
+        stops(given.address, Cause::Target)
     }
 }
 
-fn branches(condition: Condition, address: u32, c: u32, first: u32, second: u32) -> Outcome
-    ensures { result ≡ Execute.performed (Computation.Branch condition) address c first second }
+fn branches(condition: Condition, given: Inputs) -> Outcome
+    ensures { result ≡ Execute.performed (Computation.Branch condition) given.address given.constant given.first given.second }
 {
-    if arithmetic::holds(condition, first, second) {
-        jumps(address, 0, word::add(address, c))
+    if arithmetic::holds(condition, given.first, given.second) {
+        jumps(given, 0, word::add(given.address, given.constant))
     } else {
-        goes(0, onward(address))
+        goes(0, onward(given.address))
     }
 }
 
 // a load or a store, which stops with this cause where its bytes cannot be accessed
-fn accesses(bytes: usize, size: u8, cause: u8, address: u32, at: u32, value: u32) -> Outcome
-    ensures { result ≡ choose (Memory.accessible bytes at size) (Execute.goes value (Execute.onward address)) (Execute.stops address cause) }
+fn accesses(bytes: usize, size: u8, cause: Cause, given: Inputs, value: u32) -> Outcome
+    ensures { result ≡ choose (Memory.accessible bytes (sum given.first given.constant) size) (Execute.goes value (Execute.onward given.address)) (Execute.stops given.address (cause_number cause)) }
 {
+    let at = word::add(given.first, given.constant);
     if memory::accessible(bytes, at, size) {
-        goes(value, onward(address))
+        goes(value, onward(given.address))
     } else {
-        stops(address, cause)
+        stops(given.address, cause)
     }
 }
 
-// what a computation comes to; c is the constant as a word
-fn computes(computation: Computation, address: u32, c: u32, first: u32, second: u32) -> Outcome
-    ensures { result ≡ Execute.performed computation address c first second }
+// what a computation comes to
+fn computes(computation: Computation, given: Inputs) -> Outcome
+    ensures { result ≡ Execute.performed computation given.address given.constant given.first given.second }
 {
+    let next = onward(given.address);
     match computation {
-        Computation::Upper => goes(word::shift_left(c, 12), onward(address)),
+        Computation::Upper => goes(word::shift_left(given.constant, 12), next),
         Computation::UpperAddress => {
-            goes(word::add(address, word::shift_left(c, 12)), onward(address))
+            let upper = word::shift_left(given.constant, 12);
+            goes(word::add(given.address, upper), next)
         }
-        Computation::Jump => jumps(address, onward(address), word::add(address, c)),
+        Computation::Jump => jumps(given, next, word::add(given.address, given.constant)),
         Computation::JumpRegister => {
-            jumps(address, onward(address), word::add(first, c) / 2 * 2)
+            jumps(given, next, word::add(given.first, given.constant) / 2 * 2)
         }
-        Computation::Branch(condition) => branches(condition, address, c, first, second),
+        Computation::Branch(condition) => branches(condition, given),
         Computation::Immediate(function) => {
-            goes(arithmetic::compute(function, first, c), onward(address))
+            goes(
+                arithmetic::compute(function, given.first, given.constant),
+                next,
+            )
         }
         Computation::Register(function) => {
             goes(
-                arithmetic::compute(function, first, second),
-                onward(address),
+                arithmetic::compute(function, given.first, given.second),
+                next,
             )
         }
     }
 }
 
-// what an action comes to; c is the constant as a word. Inner: the step uses it.
+// what an action comes to. Inner: the step uses it.
 #[tactic(auto, unfolding(crate::specs::Execute::executed_by))]
-pub fn perform(
-    action: Action,
-    bytes: usize,
-    address: u32,
-    c: u32,
-    first: u32,
-    second: u32,
-) -> Outcome
-    ensures { result ≡ Execute.executed_by action bytes address c first second }
+pub fn perform(action: Action, bytes: usize, given: Inputs) -> Outcome
+    ensures { result ≡ Execute.executed_by action bytes given.address given.constant given.first given.second }
 {
     match action {
-        Action::Computes(computation) => computes(computation, address, c, first, second),
+        Action::Computes(computation) => computes(computation, given),
         Action::LoadsSigned(size) | Action::LoadsUnsigned(size) => {
-            accesses(bytes, size, 6, address, word::add(first, c), second)
+            accesses(bytes, size, Cause::Load, given, given.second)
         }
-        Action::Stores(size) => accesses(bytes, size, 7, address, word::add(first, c), 0),
-        Action::Stops(cause) => stops(address, cause),
+        Action::Stores(size) => accesses(bytes, size, Cause::Store, given, 0),
+        Action::Stops(cause) => stops(given.address, cause),
     }
 }
 
@@ -116,13 +119,11 @@ pub fn perform(
 pub fn execute(bytes: usize, i: Instruction, address: u32, first: u32, second: u32) -> Outcome
     ensures { result ≡ Execute.executed bytes i address first second }
 {
-    let constant = word::to_word(i.constant);
-    perform(
-        actions::action(i.operation),
-        bytes,
+    let given = Inputs {
         address,
-        constant,
+        constant: word::to_word(i.constant),
         first,
         second,
-    )
+    };
+    perform(actions::action(i.operation), bytes, given)
 }

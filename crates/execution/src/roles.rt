@@ -30,8 +30,8 @@ pub fn stop_at_once(i: Instruction) -> Stop
     ensures { result ≡ Roles.stop_at_once i }
 {
     match actions::action(i.operation) {
-        Action::Stops(cause) => Stop { cause },
-        _ => Stop { cause: 0 },
+        Action::Stops(cause) => cause.into(),
+        _ => Stop::NONE,
     }
 }
 

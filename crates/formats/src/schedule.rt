@@ -1,5 +1,6 @@
 ghost use Rattle.std.specs.Prelude.{◌≡◌, ◌+◌, ◌*◌, ◌≤◌, length};
 ghost use Rattle.refusals.specs.Numbers.{number_of};
+ghost use Rattle.word.specs.Bytes.{byte_of};
 ghost use Rattle.formats.specs.Schedule as Schedule;
 
 use crate::Record;
@@ -43,27 +44,34 @@ pub fn check_head(schedule: &[u8]) -> Result<(), Refusal>
     Ok(())
 }
 
+// a byte of record 0, 0 where the schedule has none
+fn byte(schedule: &[u8], at: usize) -> u8
+    ensures { result ≡ byte_of schedule.now at }
+{
+    schedule.get(at).copied().unwrap_or(0)
+}
+
 // W, out of record 0; each of its parts has a function and none needs a struct, since the chain reads the first index and
 // set-up the other two. Inner: replay uses it.
+#[tactic(auto, unfolding(word::specs::Bytes::number))]
 pub fn window_in(schedule: &[u8]) -> u8
-    requires { Schedule.record_length ≤ length schedule.now }
     ensures { result ≡ Schedule.window_in schedule.now }
 {
-    word::load(schedule, 1, 1) as u8
+    byte(schedule, 1)
 }
 
 // N, out of record 0. Inner: replay uses it.
+#[tactic(auto, unfolding(word::specs::Bytes::number))]
 pub fn registers_in(schedule: &[u8]) -> u8
-    requires { Schedule.record_length ≤ length schedule.now }
     ensures { result ≡ Schedule.registers_in schedule.now }
 {
-    word::load(schedule, 4, 1) as u8
+    byte(schedule, 4)
 }
 
 // where the chain starts, 0 where there is none. Inner: replay uses it.
+#[tactic(auto, unfolding(word::specs::Bytes::number))]
 pub fn first_index(schedule: &[u8]) -> u16
-    requires { Schedule.record_length ≤ length schedule.now }
     ensures { result ≡ Schedule.first_index schedule.now }
 {
-    word::load(schedule, 2, 2) as u16
+    u16::from_le_bytes([byte(schedule, 2), byte(schedule, 3)])
 }

@@ -22,23 +22,14 @@ fn store_below(core: &Core, n: usize) -> bool
         .any(|e| roles::is_store(e.instruction))
 }
 
-// 10 halted; 12 no entry there; 13 entry not waiting; 14 operand not ready; 15 load with an older store in the window.
-// Issue, complete and commit begin alike: one function over the state would be no plainer, since each has its own list.
-#[tactic(auto, unfolding(crate::specs::Issue::issue_refusal, reference::specs::Step::first))]
+// 10 halted; 12 no entry there; 13 entry not waiting; 14 operand not ready; 15 load with an older store in the window
+#[tactic(auto, unfolding(crate::specs::Issue::issue_refusal, renaming::specs::Call::entry_refusal, reference::specs::Step::first), using(refusals::proofs::Laws::number_some, refusals::proofs::Laws::handed_on))]
 fn check(core: &Core, position: usize) -> Result<(), Refusal>
     requires { core.now.count ≤ most_entries }
     ensures { number_of result ≡ Issue.issue_refusal position core.now }
 {
-    if core.halt.cause != 0 {
-        return Err(Refusal::Halted);
-    }
-    if core.count as usize <= position {
-        return Err(Refusal::NoEntry);
-    }
+    core.check_entry(position, State::Waits)?;
     let e = &core.entries[position];
-    if e.state != State::Waits {
-        return Err(Refusal::WrongState);
-    }
     if !e.is_ready() {
         return Err(Refusal::OperandNotReady);
     }

@@ -5,7 +5,7 @@ ghost use Rattle.ranges.specs.Sizes.{most_entries};
 
 use crate::Setup;
 use crate::sizes::LAST_LOGICAL;
-use execution::memory;
+use execution::{Cause, Stop, memory};
 use isa::Instruction;
 use tables::{Entry, Operand, State};
 
@@ -19,6 +19,7 @@ fn operand_in_range(names: u8, registers: u8, operand: Operand) -> bool
     }
 }
 
+// the derived equality, under the name of document 01's case
 fn is_none(i: Instruction) -> bool
     ensures { result ≡ Entries.is_none i }
 {
@@ -28,22 +29,20 @@ fn is_none(i: Instruction) -> bool
 fn instruction_in_range(e: &Entry) -> bool
     ensures { result ≡ Entries.instruction_in_range e.now }
 {
-    isa::accepts(e.instruction)
-        | (is_none(e.instruction)
-            & (e.state == State::Completed)
-            & ((e.stop.cause == 1) | (e.stop.cause == 4)))
+    let without = (e.stop == Cause::Illegal.into()) | (e.stop == Cause::Fetch.into());
+    isa::accepts(e.instruction) | (is_none(e.instruction) & (e.state == State::Completed) & without)
 }
 
 fn cause_in_range(e: &Entry) -> bool
     ensures { result ≡ Entries.cause_in_range e.now }
 {
-    (e.stop.cause <= 7) & ((e.state == State::Completed) | (e.stop.cause == 0))
+    e.stop.is_in_range() & ((e.state == State::Completed) | (e.stop == Stop::NONE))
 }
 
 fn store_in_range(bytes: u16, e: &Entry) -> bool
     ensures { result ≡ Entries.store_in_range bytes e.now }
 {
-    !((e.state == State::Completed) & (e.stop.cause == 0))
+    !((e.state == State::Completed) & (e.stop == Stop::NONE))
         | memory::store_ends_within(bytes as usize, e.instruction, e.first)
 }
 

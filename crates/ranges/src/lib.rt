@@ -5,7 +5,16 @@ pub mod entries;
 pub mod sizes;
 pub mod table;
 
-// Window W, registers N, and the lengths of program and data.
+// The four sizes as a caller asks for them.
+#[derive(Clone, Copy, Debug, PartialEq, Eq)]
+pub struct Dimensions {
+    pub window: u32,
+    pub registers: u32,
+    pub program: usize,
+    pub bytes: usize,
+}
+
+// Window W, registers N, and the lengths of program and data, as a machine holds them.
 #[derive(Clone, Copy, Debug, PartialEq, Eq, Default)]
 pub struct Setup {
     pub window: u8,

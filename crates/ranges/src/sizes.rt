@@ -1,9 +1,9 @@
 // The sizes of a machine: W, N and the lengths of program and data.
-ghost use Rattle.std.specs.Prelude.{◌≡◌};
+ghost use Rattle.std.specs.Prelude.{◌≡◌, IfOk};
 ghost use Rattle.refusals.specs.Numbers.{number_of};
 ghost use Rattle.ranges.specs.Sizes.{setup_of, window_fits, registers_fit, set_up_refusal, setup_in_range};
 
-use crate::Setup;
+use crate::{Dimensions, Setup};
 use reference::lengths;
 use refusals::Refusal;
 
@@ -28,18 +28,27 @@ fn registers_fit(registers: u32) -> bool
     (32 <= registers) & (registers <= MOST_REGISTERS as u32)
 }
 
-// Refusals 1 to 4. Inner: set-up and replay use it.
-#[tactic(auto, unfolding(crate::specs::Sizes::set_up_refusal, reference::specs::Step::lengths_refusal, reference::specs::Step::first))]
-pub fn check(window: u32, registers: u32, program: usize, bytes: usize) -> Result<(), Refusal>
-    ensures { number_of result ≡ set_up_refusal (setup_of window registers program bytes) }
-{
-    if !window_fits(window) {
-        return Err(Refusal::WindowSize);
+impl Dimensions {
+    // Refusals 1 to 4, or the sizes as a machine holds them. Inner: set-up uses it.
+    #[tactic(auto, unfolding(crate::specs::Sizes::set_up_refusal, reference::specs::Step::lengths_refusal, reference::specs::Step::first))]
+    pub fn check(self) -> Result<Setup, Refusal>
+        ensures number { number_of result ≡ set_up_refusal (setup_of self.window self.registers self.program self.bytes) }
+        ensures kept { IfOk result (λ setup. setup ≡ setup_of self.window self.registers self.program self.bytes) }
+    {
+        if !window_fits(self.window) {
+            return Err(Refusal::WindowSize);
+        }
+        if !registers_fit(self.registers) {
+            return Err(Refusal::RegisterCount);
+        }
+        lengths::check(self.program, self.bytes)?;
+        Ok(Setup {
+            window: self.window as u8,
+            registers: self.registers as u8,
+            program: self.program as u16,
+            bytes: self.bytes as u16,
+        })
     }
-    if !registers_fit(registers) {
-        return Err(Refusal::RegisterCount);
-    }
-    lengths::check(program, bytes)
 }
 
 // Inner: refusal 5 uses it.

@@ -43,5 +43,5 @@ pub fn tables_in_range(
         & within(registers, names, physical)
         & within(names, LAST_LOGICAL, &map.names)
         & within(registers, LAST_LOGICAL, &map.registers)
-        & (halt.cause <= 7)
+        & halt.is_in_range()
 }

@@ -2,7 +2,7 @@ ghost use Rattle.std.specs.Prelude.{◌≡◌, true};
 ghost use Rattle.isa.specs.Reads.{illegal};
 ghost use Rattle.reference.specs.Fetch.{fetch_numbers, of_reading, has_word, word_at, outside, fetch_at};
 
-use execution::{Stop, memory};
+use execution::{Cause, Stop, memory};
 use isa::Instruction;
 
 // Inner, for fetch and for decode: whether the program has a word at this address.
@@ -25,14 +25,14 @@ pub fn word_at(program: &[u8], address: u32) -> u32
 pub fn outside() -> Stop
     ensures { result ≡ outside }
 {
-    Stop { cause: 4 }
+    Cause::Fetch.into()
 }
 
 // Inner, for fetch and for decode: the stop of a word that is illegal.
 pub fn illegal() -> Stop
     ensures { result ≡ (of_reading illegal).stop }
 {
-    Stop { cause: 1 }
+    Cause::Illegal.into()
 }
 
 // The instruction at an address, or a stop: 4 outside the program or not a multiple of 4, 1 illegal.

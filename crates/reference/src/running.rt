@@ -29,7 +29,7 @@ fn proceed(program: &[u8], data: &mut [u8], registers: [u32; 32], address: u32, 
         registers: values,
         address: at,
         steps: n,
-        stop: Stop { cause: 0 },
+        stop: Stop::NONE,
         refusal: None,
     }
 }
@@ -43,7 +43,7 @@ pub fn run(program: &[u8], data: &mut [u8], registers: [u32; 32], address: u32, 
             registers,
             address,
             steps: 0,
-            stop: Stop { cause: 0 },
+            stop: Stop::NONE,
             refusal: Some(refusal),
         };
     }

@@ -2,7 +2,7 @@ ghost use Rattle.std.specs.Prelude.{◌≡◌, ◌≢◌, ◌<◌, IfErr};
 ghost use Rattle.reference.specs.Step as Step;
 
 use crate::{Stepped, lengths, operands, program, registers};
-use execution::{Stop, actions, executing, memory};
+use execution::{Inputs, Stop, actions, executing, memory};
 use isa::Instruction;
 
 // one instruction on lent registers and data: the next address, or a stop, which leaves them.
@@ -23,7 +23,13 @@ fn make(
     let operand = registers::read(registers, operands::second_source(i));
     let at = word::add(first, constant);
     let second = memory::second_by(action, data, at, operand);
-    let outcome = executing::perform(action, data.len(), address, constant, first, second);
+    let given = Inputs {
+        address,
+        constant,
+        first,
+        second,
+    };
+    let outcome = executing::perform(action, data.len(), given);
     let stop = outcome.stop;
     if stop.cause != 0 {
         return Err(stop);
@@ -57,7 +63,7 @@ pub fn step(program: &[u8], data: &mut [u8], registers: [u32; 32], address: u32)
         return Stepped {
             registers: values,
             address,
-            stop: Stop { cause: 0 },
+            stop: Stop::NONE,
             refusal: Some(refusal),
         };
     }
@@ -65,7 +71,7 @@ pub fn step(program: &[u8], data: &mut [u8], registers: [u32; 32], address: u32)
         Ok(next) => Stepped {
             registers: values,
             address: next,
-            stop: Stop { cause: 0 },
+            stop: Stop::NONE,
             refusal: None,
         },
         Err(stop) => Stepped {

@@ -1,7 +1,8 @@
 // The numbered refusals: why a call, a step, a set-up, a schedule or an encoding is not made.
 #![tactic(auto)]
 
-ghost use Rattle.refusals.specs.Numbers.{number};
+ghost use Rattle.std.specs.Prelude.{◌≡◌};
+ghost use Rattle.refusals.specs.Numbers.{number, number_of as number_in};
 
 // One variant for each refusal, with document 01's number.
 #[derive(Clone, Copy, Debug, PartialEq, Eq)]
@@ -33,11 +34,27 @@ pub enum Refusal {
 }
 
 impl From<Refusal> for u8 {
-    ghost use Rattle.std.specs.Prelude.{◌≡◌};
-
     ghost from_gives = { λ refusal n. n ≡ number refusal };
 
     fn from(refusal: Refusal) -> u8 {
         refusal as u8
+    }
+}
+
+impl From<Refusal> for u32 {
+    ghost from_gives = { λ refusal n. n ≡ number refusal };
+
+    fn from(refusal: Refusal) -> u32 {
+        refusal as u32
+    }
+}
+
+// 0 for what is accepted, else the refusal's number.
+pub fn number_of<T>(outcome: &Result<T, Refusal>) -> u8
+    ensures { result ≡ number_in outcome.now }
+{
+    match outcome {
+        Ok(_) => 0,
+        Err(refusal) => (*refusal).into(),
     }
 }

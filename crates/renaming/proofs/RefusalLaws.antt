@@ -2,7 +2,7 @@
 use Prim.Native.Nat.{ℕ, ◌≤◌}
 use mathlib.Core.Path.{◌≡◌, refl, sym, ap, ◌∙◌}
 use mathlib.Core.Bool.{Bool, true, false, not, ◌&&◌}
-use mathlib.Core.List.{List, [], ◌∷◌}
+use mathlib.Core.List.{List, [], ◌∷◌, ◌++◌}
 use borrow.Author.Tests.{eq-eqb, ne_eqb, eqb-true, eqb-false}
 use lib.Dec.{leb, eqb}
 use Rattle.isa.specs.Reads.{choose}
@@ -61,6 +61,17 @@ module _ (lent own : ℕ) where
       at : (b : Bool) → eqb own 0 ≡ b → own ≡ choose b 0 own
       at true z = eqb-true own 0 z
       at false z = refl
+
+-- the first of a list's refusals, then those that stand behind it
+pub first_append : (leading rest : List ℕ) → first (leading ++ rest) ≡ in_turn (first leading) (first rest)
+unfolding first
+first_append [] rest = own_next 0 (first rest) refl
+first_append (number ∷ leading) rest = at (eqb number 0) refl (first_append leading rest)
+  where
+    at : (b : Bool) → eqb number 0 ≡ b → first (leading ++ rest) ≡ in_turn (first leading) (first rest)
+        → choose b (first (leading ++ rest)) number ≡ in_turn (choose b (first leading) number) (first rest)
+    at true z e = e
+    at false z e = lent_first number (first rest) (eqb-false number 0 z)
 
 -- 5, then 6
 module _ (m : Core) (program memory : List ℕ) where

@@ -5,13 +5,14 @@
 pub mod changing;
 pub mod dropping;
 pub mod lending;
+pub mod placing;
 pub mod range;
 pub mod reporting;
 pub mod setting;
 
 use execution::Stop;
-pub use ranges::Setup;
 use ranges::sizes::MOST_ENTRIES;
+pub use ranges::{Dimensions, Setup};
 use tables::{Entry, FreeList, GeneralMap, PLACES};
 
 // The core: all that document 01's machine holds, under 4 KB, by value. Every number may be any: refusal 5 answers those out

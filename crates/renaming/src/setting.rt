@@ -1,35 +1,34 @@
-ghost use Rattle.std.specs.Prelude.{◌≡◌, ◌≤◌, ◌<◌, length};
+ghost use Rattle.std.specs.Prelude.{◌≡◌, ◌≤◌};
 ghost use Rattle.renaming.specs.Core as Machines;
 ghost use Rattle.renaming.specs.SetUp.{rising_next, rising_pool, fresh_machine, set_up_of, set_up_answer};
 ghost use Rattle.ranges.specs.Sizes.{setup_of, most_entries};
-ghost use Rattle.tables.specs.Table.{places};
 
 use crate::Core;
 use execution::Stop;
 use ranges::sizes::{LAST_LOGICAL, MOST_ENTRIES};
-use ranges::{Setup, sizes};
+use ranges::{Dimensions, Setup};
 use refusals::Refusal;
 use tables::{Entry, FreeList, GeneralMap, PLACES};
 
 // the number after k in a pool of 32 to last
-fn successor(k: usize, last: usize) -> u8
-    requires { k < places }
+fn successor(k: usize, last: u8) -> u8
     ensures { result ≡ rising_next last k }
 {
-    if (32 <= k) & (k < last) {
+    if (32 <= k) & (k < last as usize) {
         (k + 1) as u8
     } else {
         0
     }
 }
 
-// a pool of 32 to last, in rising order
+// a pool of 32 to last, in rising order. Tried by array::from_fn, and the proof did not close: of a call at one index std does
+// not say that the closure still has the `last` that it captured.
 fn rising(last: u8) -> FreeList
     ensures { result ≡ rising_pool last }
 {
     let mut link = [0u8; PLACES];
     for k in 0..PLACES {
-        link[k] = successor(k, last as usize);
+        link[k] = successor(k, last);
     }
     FreeList { head: 32, link }
 }
@@ -95,26 +94,15 @@ impl Core {
             free_names: empty,
             fetch: 0,
             next: 0,
-            halt: Stop::default(),
+            halt: Stop::NONE,
         }
     }
 
     // A fresh machine for a window of 1 to 64 entries, 32 to 95 physical registers and these lengths of program and
     // data; refused by 1 to 4. Inner: `window` and replay use it.
-    pub fn set_up(
-        window: u32,
-        registers: u32,
-        program: usize,
-        bytes: usize,
-    ) -> Result<Core, Refusal>
-        ensures { set_up_answer result ≡ set_up_of (setup_of window registers program bytes) }
+    pub fn set_up(asked: Dimensions) -> Result<Core, Refusal>
+        ensures { set_up_answer result ≡ set_up_of (setup_of asked.window asked.registers asked.program asked.bytes) }
     {
-        sizes::check(window, registers, program, bytes)?;
-        Ok(fresh(Setup {
-            window: window as u8,
-            registers: registers as u8,
-            program: program as u16,
-            bytes: bytes as u16,
-        }))
+        Ok(fresh(asked.check()?))
     }
 }

@@ -26,7 +26,7 @@ pub extern "C" fn timing_run(program: &[u8], data: &mut [u8], calls: u32) -> Tim
         return Timed {
             steps: 0,
             cause: 0,
-            refusal: u8::from(refusal) as u32,
+            refusal: refusal.into(),
         };
     }
     let mut values = [0u32; 32];
@@ -39,7 +39,7 @@ pub extern "C" fn timing_run(program: &[u8], data: &mut [u8], calls: u32) -> Tim
         if stop.cause != 0 {
             return Timed {
                 steps,
-                cause: stop.cause as u32,
+                cause: stop.cause.into(),
                 refusal: 0,
             };
         }

@@ -5,7 +5,7 @@ ghost use Rattle.window.specs.Calls as Calls;
 ghost use Rattle.window.specs.Drain as Drain;
 ghost use Rattle.window.specs.Handed as Handed;
 
-use crate::{Call, Drained, Machine, making, numbering};
+use crate::{Call, Drained, Machine, making};
 use refusals::Refusal;
 use renaming::Core;
 use tables::State;
@@ -56,7 +56,7 @@ impl Machine {
         Drained {
             machine: self,
             calls,
-            number: numbering::number(outcome),
+            number: refusals::number_of(&outcome),
         }
     }
 }

@@ -4,7 +4,7 @@ ghost use Rattle.ranges.specs.Sizes.{setup_of};
 ghost use Rattle.window.specs.Handed as Handed;
 
 use crate::{Answer, Machine};
-use renaming::Core;
+use renaming::{Core, Dimensions};
 
 impl Machine {
     // A fresh machine for a window of 1 to 64 entries, 32 to 95 physical registers and these lengths of program and
@@ -12,7 +12,13 @@ impl Machine {
     pub fn set_up(window: u32, registers: u32, program: usize, bytes: usize) -> Answer
         ensures { Handed.answer result ≡ set_up_of (setup_of window registers program bytes) }
     {
-        match Core::set_up(window, registers, program, bytes) {
+        let asked = Dimensions {
+            window,
+            registers,
+            program,
+            bytes,
+        };
+        match Core::set_up(asked) {
             Ok(core) => Answer {
                 machine: Machine { core },
                 number: 0,

@@ -1,4 +1,4 @@
-ghost use Rattle.std.specs.Prelude.{◌≡◌, ◌<◌};
+ghost use Rattle.std.specs.Prelude.{◌≡◌, ◌%◌};
 ghost use Rattle.word.specs.Arithmetic.{sum, difference, shift_left, shift_right, shift_right_signed, less_signed};
 
 // Inner: the crates above use it.
@@ -15,28 +15,25 @@ pub fn sub(a: u32, b: u32) -> u32
     a.wrapping_sub(b)
 }
 
-// Inner: the crates above use it.
+// by the lowest five bits of the count. Inner: the crates above use it.
 pub fn shift_left(a: u32, count: u32) -> u32
-    requires { count < 32 }
-    ensures { result ≡ shift_left a count }
+    ensures { result ≡ shift_left a (count % 32) }
 {
-    a << count
+    a.wrapping_shl(count)
 }
 
-// Inner: the crates above use it.
+// by the lowest five bits of the count. Inner: the crates above use it.
 pub fn shift_right(a: u32, count: u32) -> u32
-    requires { count < 32 }
-    ensures { result ≡ shift_right a count }
+    ensures { result ≡ shift_right a (count % 32) }
 {
-    a >> count
+    a.wrapping_shr(count)
 }
 
-// the sign bit fills the places that become free. Inner: the crates above use it.
+// by the lowest five bits of the count; the sign bit fills the places that become free. Inner: the crates above use it.
 pub fn shift_right_signed(a: u32, count: u32) -> u32
-    requires { count < 32 }
-    ensures { result ≡ shift_right_signed a count }
+    ensures { result ≡ shift_right_signed a (count % 32) }
 {
-    (a.cast_signed() >> count).cast_unsigned()
+    a.cast_signed().wrapping_shr(count).cast_unsigned()
 }
 
 // Inner: the crates above use it.

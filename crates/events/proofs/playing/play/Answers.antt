@@ -1,11 +1,8 @@
 use Rattle.std.proofs.Common.{◌≡◌, arith, rules}
-use Rattle.formats.proofs.HeadLaws.{at_least, at_most}
+use Rattle.formats.proofs.HeadLaws.{at_most}
 use Rattle.events.specs.Counts.{no_counts}
 use Rattle.events.proofs.Going.{begins, chain_ends, ends, goes_on, inside, is_lent, small_enough}
 use Rattle.events.proofs.playing.play.Goals as goal
-
-pub first_index-index-requires : goal.first_index-index-requires
-first_index-index-requires c = at_least _ c.requires.fits
 
 pub loop-turn-init : goal.loop-turn-init
 loop-turn-init c =
