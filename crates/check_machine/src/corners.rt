@@ -1,5 +1,5 @@
 // The machines that are damaged: every pair of W and N at the ends of their ranges, fresh or with a full window.
-use crate::judging::Tally;
+use crate::judging::Trial;
 use crate::samples;
 use renaming::Core;
 use std::io;
@@ -9,10 +9,10 @@ const WINDOWS: [u32; 4] = [1, 2, 63, 64];
 const REGISTERS: [u32; 4] = [32, 33, 94, 95];
 
 // Damages all machines in one way, and prints what came of it.
-pub fn over<F: Fn(&Core, &mut Tally)>(rt: &impl Print, name: &str, damage: F) -> io::Result<()>
+pub fn over<F: Fn(&mut Trial)>(rt: &impl Print, name: &str, damage: F) -> io::Result<()>
     requires { F.IsAlwaysCallable damage }
 {
-    let mut t = Tally::default();
+    let mut trial = Trial::new();
     for (j, n) in REGISTERS.iter().enumerate() {
         for (i, w) in WINDOWS.iter().enumerate() {
             // the shortest program with the longest data, or the longest program with one data word
@@ -22,13 +22,12 @@ pub fn over<F: Fn(&Core, &mut Tally)>(rt: &impl Print, name: &str, damage: F) ->
                 (16_384, 4)
             };
             if let Ok(fresh) = Core::set_up(*w, *n, program, bytes) {
-                damage(&fresh, &mut t);
-                damage(&samples::filled(&fresh), &mut t);
+                for machine in [fresh, samples::filled(&fresh)] {
+                    trial.machine = machine;
+                    damage(&mut trial);
+                }
             }
         }
     }
-    println!(rt;
-        "{name}: refused {}, in range {}, not looked at {}, differ {}",
-        t.refused, t.in_range, t.ignored, t.differ
-    )
+    trial.print(rt, name)
 }

@@ -1,39 +1,33 @@
 // Damage to an entry at either end of the window, and the same entry past the count.
-use crate::judging::Tally;
-use crate::limits::{above, names_of};
-use crate::samples::{Case, STATES, instruction, plain};
-use crate::{instruction_cases, store_cases};
+use crate::cases::{Case, Expected};
+use crate::instruction_cases::LISTING;
+use crate::judging::Trial;
+use crate::limits::{about, names_of};
+use crate::samples::{STATES, instruction, plain};
+use crate::store_cases;
+use crate::table_damage::put;
 use execution::Stop;
 use isa::Instruction;
 use renaming::Core;
 use tables::{Entry, Operand, State};
 
-// with the count just below the entry, and with the entry below the count
-fn at_place(m: &Core, at: u8, c: &Case, looked_at: bool, t: &mut Tally) {
-    let mut changed = *m;
-    if let Some(place) = changed.entries.get_mut(at as usize) {
-        *place = c.entry;
+// with the entry below the count, and with the count just below the entry
+fn at_place(t: &mut Trial, at: u8, case: Case<Entry>) {
+    let mut changed = t.machine;
+    put(&mut changed.entries, at as usize, case.value);
+    if at < changed.count {
+        t.judge(&changed, case.expected);
+        changed.count = at;
     }
-    if at >= m.count {
-        t.ignored(&changed);
-        return;
-    }
-    t.ignored(&Core {
-        count: at,
-        ..changed
-    });
-    if looked_at {
-        t.looked_at(&changed, c.refused);
-    } else {
-        t.ignored(&changed);
-    }
+    t.judge(&changed, Expected::Ignored);
 }
 
 // at the oldest place and at the last of the window
-fn at_ends(m: &Core, c: &Case, looked_at: bool, t: &mut Tally) {
-    at_place(m, 0, c, looked_at, t);
-    if m.setup.window > 1 {
-        at_place(m, m.setup.window - 1, c, looked_at, t);
+fn at_ends(t: &mut Trial, case: Case<Entry>) {
+    at_place(t, 0, case);
+    let window = t.machine.setup.window;
+    if window > 1 {
+        at_place(t, window - 1, case);
     }
 }
 
@@ -45,17 +39,20 @@ fn with(e: Entry, state: State, cause: u8) -> Entry {
     }
 }
 
-pub fn instructions(m: &Core, t: &mut Tally) {
-    for operation in 1..40u8 {
-        for case in instruction_cases::cases(operation) {
-            for state in STATES {
-                let cause = u8::from(state == State::Completed);
-                let entry = Entry {
-                    instruction: case.instruction,
-                    ..with(plain(), state, cause)
-                };
-                let refused = case.refused;
-                at_ends(m, &Case { entry, refused }, true, t);
+// in three states, completed with this cause
+fn in_states(t: &mut Trial, cause: u8, case: Case<Entry>) {
+    for state in STATES {
+        let cause = if state == State::Completed { cause } else { 0 };
+        at_ends(t, case.map(|e| with(e, state, cause)));
+    }
+}
+
+pub fn instructions(t: &mut Trial) {
+    let e = plain();
+    for (first, last, limits) in LISTING {
+        for operation in first..=last {
+            for case in limits.cases(operation) {
+                in_states(t, 1, case.map(|instruction| Entry { instruction, ..e }));
             }
         }
     }
@@ -73,130 +70,113 @@ fn fields(operation: u8) -> [Instruction; 6] {
     ]
 }
 
-// Four operations that are none, six choices of fields, three states, causes 0 to 7: operation 0 with zero fields passes
-// completed with cause 1 or 4.
-pub fn no_instruction(m: &Core, t: &mut Tally) {
-    for operation in [0, 40, 128, 255] {
-        for (choice, instruction) in fields(operation).iter().enumerate() {
-            for state in STATES {
-                for cause in 0..8u8 {
-                    let passes = operation == 0
-                        && choice == 0
-                        && state == State::Completed
-                        && (cause == 1 || cause == 4);
-                    let entry = Entry {
-                        instruction: *instruction,
-                        ..with(plain(), state, cause)
-                    };
-                    let refused = !passes;
-                    at_ends(m, &Case { entry, refused }, true, t);
-                }
-            }
+// in three states, with causes 0 to 7: operation 0 with zero fields passes completed with cause 1 or 4
+fn illegal(t: &mut Trial, illegal: Instruction) {
+    let entry = Entry {
+        instruction: illegal,
+        ..plain()
+    };
+    let is_zero = illegal == instruction(0, 0, 0, 0, 0);
+    for state in STATES {
+        for cause in 0..8 {
+            let passes = is_zero && state == State::Completed && (cause == 1 || cause == 4);
+            at_ends(t, Case::refused_if(!passes, with(entry, state, cause)));
         }
     }
 }
 
-// none, the limit, one above it, 255, and whether that is to be refused
-fn about(limit: u8) -> [(u8, bool); 4] {
-    [
-        (0, false),
-        (limit, false),
-        (above(limit), true),
-        (255, true),
-    ]
+// Four operations that are none, six choices of fields.
+pub fn no_instruction(t: &mut Trial) {
+    for operation in [0, 40, 128, 255] {
+        for instruction in fields(operation) {
+            illegal(t, instruction);
+        }
+    }
 }
 
 // Destination, name and previous name, in three states.
-pub fn numbers(m: &Core, t: &mut Tally) {
-    for state in STATES {
-        let e = with(plain(), state, 0);
-        for (destination, refused) in about(31) {
-            let entry = Entry { destination, ..e };
-            at_ends(m, &Case { entry, refused }, true, t);
-        }
-        for (name, refused) in about(names_of(m)) {
-            let entry = Entry { name, ..e };
-            at_ends(m, &Case { entry, refused }, true, t);
-        }
-        for (previous, refused) in about(names_of(m)) {
-            let entry = Entry { previous, ..e };
-            at_ends(m, &Case { entry, refused }, true, t);
-        }
+pub fn numbers(t: &mut Trial) {
+    let e = plain();
+    for case in about(31) {
+        in_states(t, 0, case.map(|destination| Entry { destination, ..e }));
+    }
+    for case in about(names_of(&t.machine)) {
+        in_states(t, 0, case.map(|name| Entry { name, ..e }));
+        in_states(t, 0, case.map(|previous| Entry { previous, ..e }));
     }
 }
 
 // the left operand or the right one, in three states
-fn operand(m: &Core, operand: Operand, refused: bool, t: &mut Tally) {
-    for state in STATES {
-        for (left, right) in [(operand, Operand::Zero), (Operand::Zero, operand)] {
-            let entry = Entry {
-                left,
-                right,
-                ..with(plain(), state, 0)
-            };
-            at_ends(m, &Case { entry, refused }, true, t);
-        }
-    }
+fn operand(t: &mut Trial, case: Case<Operand>) {
+    let e = Entry {
+        left: Operand::Zero,
+        right: Operand::Zero,
+        ..plain()
+    };
+    in_states(t, 0, case.map(|left| Entry { left, ..e }));
+    in_states(t, 0, case.map(|right| Entry { right, ..e }));
 }
 
 // Waiting on a name; ready with a name; ready with a register.
-pub fn operands(m: &Core, t: &mut Tally) {
-    let names = names_of(m);
-    let registers = m.setup.registers;
-    for (name, refused) in about(names) {
-        operand(m, Operand::Waiting(name), refused, t);
-        operand(m, Operand::Ready(name, registers), refused, t);
+pub fn operands(t: &mut Trial) {
+    let names = names_of(&t.machine);
+    let registers = t.machine.setup.registers;
+    for case in about(names) {
+        operand(t, case.map(Operand::Waiting));
+        operand(t, case.map(|name| Operand::Ready(name, registers)));
     }
-    for (register, refused) in about(registers) {
-        operand(m, Operand::Ready(names, register), refused, t);
+    for case in about(registers) {
+        operand(t, case.map(|register| Operand::Ready(names, register)));
     }
 }
 
 // Causes 0 to 9 and 255 in three states.
-pub fn causes(m: &Core, t: &mut Tally) {
+pub fn causes(t: &mut Trial) {
     for cause in [0, 1, 2, 3, 4, 5, 6, 7, 8, 9, 255] {
         for state in STATES {
-            let entry = with(plain(), state, cause);
             let refused = cause > 7 || (state != State::Completed && cause != 0);
-            at_ends(m, &Case { entry, refused }, true, t);
+            at_ends(t, Case::refused_if(refused, with(plain(), state, cause)));
         }
     }
 }
 
-pub fn stores(m: &Core, t: &mut Tally) {
-    for size in [1, 2, 4] {
-        for place in store_cases::places(m.setup.bytes, size) {
-            for (state, cause) in store_cases::ENDINGS {
-                let case = store_cases::store(m.setup.bytes, size, place, state, cause);
-                at_ends(m, &case, true, t);
-            }
-        }
+// in three states and with cause 7: a store beyond the data is refused where it is completed without a cause
+fn in_endings(t: &mut Trial, e: Entry, stores_beyond: bool) {
+    for (state, cause, refused) in [
+        (State::Waits, 0, false),
+        (State::Issued, 0, false),
+        (State::Completed, 7, false),
+        (State::Completed, 0, stores_beyond),
+    ] {
+        at_ends(t, Case::refused_if(refused, with(e, state, cause)));
     }
-    for place in store_cases::places(m.setup.bytes, 4) {
-        for (state, cause) in store_cases::ENDINGS {
-            at_ends(m, &store_cases::load(place, state, cause), true, t);
+}
+
+pub fn stores(t: &mut Trial) {
+    let bytes = t.machine.setup.bytes;
+    for access in store_cases::accesses() {
+        for place in store_cases::places(bytes, access.size) {
+            in_endings(t, access.entry(place), access.stores_beyond(place, bytes));
         }
     }
 }
 
 // What 5 does not look at, in three states.
-pub fn words(m: &Core, t: &mut Tally) {
-    for state in STATES {
-        let e = with(plain(), state, 0);
-        for word in [2, 0x8000_0000, 0xffff_ffff] {
-            for entry in [
-                Entry { address: word, ..e },
-                Entry {
-                    predicted: word,
-                    ..e
-                },
-                Entry { first: word, ..e },
-                Entry { second: word, ..e },
-                Entry { result: word, ..e },
-            ] {
-                let refused = false;
-                at_ends(m, &Case { entry, refused }, false, t);
-            }
+pub fn words(t: &mut Trial) {
+    let e = plain();
+    let expected = Expected::Ignored;
+    for word in [2, 0x8000_0000, 0xffff_ffff] {
+        for value in [
+            Entry { address: word, ..e },
+            Entry {
+                predicted: word,
+                ..e
+            },
+            Entry { first: word, ..e },
+            Entry { second: word, ..e },
+            Entry { result: word, ..e },
+        ] {
+            in_states(t, 0, Case { value, expected });
         }
     }
 }

@@ -1,66 +1,71 @@
-// Whether a machine is refused by 5, or passes.
+// Whether a machine is refused by 5, or passes. Document 01's numbers are written as they stand there: a test that took them
+// from the code would not see a wrong one.
+use crate::cases::Expected;
 use renaming::Core;
+use std::io;
+use vectors::Tally;
 use window::Machine;
-
-// How many machines with a damaged number were to be refused by 5, how many with a number at its limit were to pass, how
-// many with a number that 5 does not look at were to pass, and how many did otherwise.
-#[derive(Clone, Copy, Default)]
-pub struct Tally {
-    pub refused: u64,
-    pub in_range: u64,
-    pub ignored: u64,
-    pub differ: u64,
-}
 
 // Refused by the sweep and by the report, which then has all values 0.
 pub fn is_refused(m: &Core) -> bool {
-    let machine = Machine { core: *m };
-    let report = machine.report();
+    let report = Machine { core: *m }.report();
     !m.in_range() && report.number == 5 && report.registers == [0; 32]
 }
 
 pub fn passes(m: &Core) -> bool {
-    let machine = Machine { core: *m };
-    m.in_range() && machine.report().number == 0
+    m.in_range() && Machine { core: *m }.report().number == 0
 }
 
-impl Tally {
-    fn judge(&mut self, right: bool) {
-        if !right {
-            self.differ = self.differ.wrapping_add(1);
+// A machine that is changed in one way or another, and how many of the changed ones were judged.
+#[derive(Drop)]
+pub struct Trial {
+    pub machine: Core,
+    // by what was expected of them
+    counts: [u64; 3],
+    tally: Tally,
+}
+
+impl Trial {
+    // Before the first machine. It is no Default, since a Core has none.
+    pub fn new() -> Trial {
+        Trial {
+            machine: Core::zeros(),
+            counts: [0; 3],
+            tally: Tally::default(),
         }
     }
 
-    pub fn refused(&mut self, m: &Core) {
-        self.refused = self.refused.wrapping_add(1);
-        self.judge(is_refused(m));
+    pub fn judge(&mut self, m: &Core, expected: Expected) {
+        vectors::count(&mut self.counts, expected as usize);
+        self.tally.told(match expected {
+            Expected::Refused => is_refused(m),
+            Expected::InRange | Expected::Ignored => passes(m),
+        });
     }
 
-    pub fn in_range(&mut self, m: &Core) {
-        self.in_range = self.in_range.wrapping_add(1);
-        self.judge(passes(m));
+    // The machine with one change.
+    pub fn change<F: FnOnce(&mut Core)>(&mut self, expected: Expected, change: F)
+        requires { F.IsAlwaysCallable change }
+    {
+        let mut changed = self.machine;
+        change(&mut changed);
+        self.judge(&changed, expected);
     }
 
-    pub fn ignored(&mut self, m: &Core) {
-        self.ignored = self.ignored.wrapping_add(1);
-        self.judge(passes(m));
-    }
-
-    // A number that is out of range or not.
-    pub fn looked_at(&mut self, m: &Core, out_of_range: bool) {
-        if out_of_range {
-            self.refused(m);
-        } else {
-            self.in_range(m);
+    // The machine with each of these values set.
+    pub fn each<T: Copy, F: Fn(&mut Core, T)>(&mut self, expected: Expected, values: &[T], set: F)
+        requires { F.IsAlwaysCallable set }
+    {
+        for value in values {
+            self.change(expected, |m| set(m, *value));
         }
     }
 
-    // A number out of range that is looked at or not.
-    pub fn damaged(&mut self, m: &Core, is_looked_at: bool) {
-        if is_looked_at {
-            self.refused(m);
-        } else {
-            self.ignored(m);
-        }
+    pub fn print(&self, rt: &impl Print, name: &str) -> io::Result<()> {
+        let [refused, in_range, ignored] = self.counts;
+        println!(rt;
+            "{name}: refused {refused}, in range {in_range}, not looked at {ignored}, differ {}",
+            self.tally.differ
+        )
     }
 }

@@ -2,6 +2,7 @@
 // damaged. What is to be expected is written here from document 01, apart from the code under test.
 #![tactic(auto)]
 
+mod cases;
 mod corners;
 mod entry_damage;
 mod instruction_cases;

@@ -1,126 +1,95 @@
 // Damage to the numbers of a machine that stand in no table.
-use crate::judging::Tally;
-use crate::limits::{above, names_of};
-use execution::Stop;
-use renaming::{Core, Setup};
+use crate::cases::Expected;
+use crate::judging::Trial;
+use crate::limits::{about, above, names_of};
+use renaming::Core;
 
 // Nothing is damaged.
-pub fn none(m: &Core, t: &mut Tally) {
-    t.in_range(m);
+pub fn none(t: &mut Trial) {
+    t.change(Expected::InRange, |_| {});
 }
 
-fn with_setup(m: &Core, setup: Setup) -> Core {
-    Core { setup, ..*m }
+// with empty pools, so that W 0 and N 31 are wrong by themselves and not by the heads
+fn without_pools<F: Fn(&mut Core, u8)>(t: &mut Trial, in_range: u8, refused: &[u8], set: F)
+    requires { F.IsAlwaysCallable set }
+{
+    let set_alone = |m: &mut Core, number: u8| {
+        m.free_registers.head = 0;
+        m.free_names.head = 0;
+        set(m, number);
+    };
+    t.each(Expected::InRange, &[in_range], &set_alone);
+    t.each(Expected::Refused, refused, &set_alone);
 }
 
-// empty pools, so that W 0 and N 31 are wrong by themselves and not by the heads
-fn without_pools(m: &Core) -> Core {
-    with_name_head(&with_register_head(m, 0), 0)
+pub fn windows(t: &mut Trial) {
+    let window = t.machine.setup.window;
+    without_pools(t, window, &[0, 65, 255], |m, n| m.setup.window = n);
 }
 
-pub fn windows(m: &Core, t: &mut Tally) {
-    let m = without_pools(m);
-    t.in_range(&m);
-    for window in [0, 65, 255] {
-        t.refused(&with_setup(&m, Setup { window, ..m.setup }));
-    }
+pub fn registers(t: &mut Trial) {
+    let registers = t.machine.setup.registers;
+    without_pools(
+        t,
+        registers,
+        &[0, 31, 96, 255],
+        |m, n| m.setup.registers = n,
+    );
 }
 
-pub fn registers(m: &Core, t: &mut Tally) {
-    let m = without_pools(m);
-    t.in_range(&m);
-    for registers in [0, 31, 96, 255] {
-        t.refused(&with_setup(
-            &m,
-            Setup {
-                registers,
-                ..m.setup
-            },
-        ));
-    }
-}
-
-pub fn programs(m: &Core, t: &mut Tally) {
-    for program in [0, 3, 6, 16_385, 16_388, 65_532] {
-        t.refused(&with_setup(m, Setup { program, ..m.setup }));
-    }
-    for program in [4, 8, 16_384] {
-        t.in_range(&with_setup(m, Setup { program, ..m.setup }));
-    }
+pub fn programs(t: &mut Trial) {
+    let set = |m: &mut Core, program: u16| m.setup.program = program;
+    t.each(Expected::Refused, &[0, 3, 6, 16_385, 16_388, 65_532], set);
+    t.each(Expected::InRange, &[4, 8, 16_384], set);
 }
 
 // A store of the samples needs a data word, unless the window is too short to hold it.
-pub fn bytes(m: &Core, t: &mut Tally) {
-    for bytes in [16_385, 65_535] {
-        t.refused(&with_setup(m, Setup { bytes, ..m.setup }));
-    }
-    for bytes in [4, 16_384] {
-        t.in_range(&with_setup(m, Setup { bytes, ..m.setup }));
-    }
-    for bytes in [3, 0] {
-        t.looked_at(&with_setup(m, Setup { bytes, ..m.setup }), m.count > 2);
-    }
+pub fn bytes(t: &mut Trial) {
+    let set = |m: &mut Core, bytes: u16| m.setup.bytes = bytes;
+    t.each(Expected::Refused, &[16_385, 65_535], set);
+    t.each(Expected::InRange, &[4, 16_384], set);
+    let holds_a_store = t.machine.count > 2;
+    t.each(Expected::refused_if(holds_a_store), &[3, 0], set);
 }
 
 // An empty place is no entry.
-pub fn counts(m: &Core, t: &mut Tally) {
-    for count in [above(m.setup.window), 65, 255] {
-        t.refused(&Core { count, ..*m });
-    }
-    t.in_range(&Core { count: 0, ..*m });
-    for count in [1, m.setup.window] {
-        t.looked_at(&Core { count, ..*m }, m.count == 0);
+pub fn counts(t: &mut Trial) {
+    let set = |m: &mut Core, count: u8| m.count = count;
+    let window = t.machine.setup.window;
+    t.each(Expected::Refused, &[above(window), 65, 255], set);
+    t.each(Expected::InRange, &[0], set);
+    let is_empty = t.machine.count == 0;
+    t.each(Expected::refused_if(is_empty), &[1, window], set);
+}
+
+fn heads<F: Fn(&mut Core, u8)>(t: &mut Trial, limit: u8, set: F)
+    requires { F.IsAlwaysCallable set }
+{
+    for head in about(limit) {
+        t.change(head.expected, |m| set(m, head.value));
     }
 }
 
-fn with_register_head(m: &Core, head: u8) -> Core {
-    let mut changed = *m;
-    changed.free_registers.head = head;
-    changed
+pub fn register_heads(t: &mut Trial) {
+    let registers = t.machine.setup.registers;
+    heads(t, registers, |m, head| m.free_registers.head = head);
 }
 
-pub fn register_heads(m: &Core, t: &mut Tally) {
-    for head in [above(m.setup.registers), 255] {
-        t.refused(&with_register_head(m, head));
-    }
-    for head in [0, m.setup.registers] {
-        t.in_range(&with_register_head(m, head));
-    }
+pub fn name_heads(t: &mut Trial) {
+    let names = names_of(&t.machine);
+    heads(t, names, |m, head| m.free_names.head = head);
 }
 
-fn with_name_head(m: &Core, head: u8) -> Core {
-    let mut changed = *m;
-    changed.free_names.head = head;
-    changed
+pub fn halts(t: &mut Trial) {
+    let set = |m: &mut Core, cause: u8| m.halt.cause = cause;
+    t.each(Expected::Refused, &[8, 255], set);
+    t.each(Expected::InRange, &[1, 7], set);
 }
 
-pub fn name_heads(m: &Core, t: &mut Tally) {
-    let names = names_of(m);
-    for head in [above(names), 255] {
-        t.refused(&with_name_head(m, head));
-    }
-    for head in [0, names] {
-        t.in_range(&with_name_head(m, head));
-    }
-}
-
-pub fn halts(m: &Core, t: &mut Tally) {
-    for cause in [8, 255] {
-        t.refused(&Core {
-            halt: Stop { cause },
-            ..*m
-        });
-    }
-    for cause in [1, 7] {
-        t.in_range(&Core {
-            halt: Stop { cause },
-            ..*m
-        });
-    }
-}
-
-pub fn addresses(m: &Core, t: &mut Tally) {
-    for (fetch, next) in [(0xffff_ffff, 0), (0, 0xffff_ffff), (2, 16_385)] {
-        t.ignored(&Core { fetch, next, ..*m });
-    }
+pub fn addresses(t: &mut Trial) {
+    let addresses = [(0xffff_ffff, 0), (0, 0xffff_ffff), (2, 16_385)];
+    t.each(Expected::Ignored, &addresses, |m, (fetch, next)| {
+        m.fetch = fetch;
+        m.next = next;
+    });
 }

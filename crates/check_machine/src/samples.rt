@@ -2,14 +2,8 @@
 use execution::Stop;
 use isa::Instruction;
 use renaming::Core;
+use std::array;
 use tables::{Entry, Operand, State};
-
-// An entry, and whether 5 is to refuse a machine that holds it.
-#[derive(Clone, Copy)]
-pub struct Case {
-    pub entry: Entry,
-    pub refused: bool,
-}
 
 pub const STATES: [State; 3] = [State::Waits, State::Issued, State::Completed];
 
@@ -107,10 +101,9 @@ pub fn filled(m: &Core) -> Core {
         stopped(39, 3),
         branch(),
     ];
-    let mut full = *m;
-    full.count = m.setup.window;
-    for (k, e) in full.entries.iter_mut().enumerate() {
-        *e = samples[k % 8];
+    Core {
+        count: m.setup.window,
+        entries: array::from_fn(|k| samples[k % samples.len()]),
+        ..*m
     }
-    full
 }

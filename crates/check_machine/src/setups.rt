@@ -1,9 +1,11 @@
 // Set-ups over the corners of the four numbers.
 use crate::judging;
 use execution::Stop;
+use refusals::Refusal;
 use renaming::Core;
 use std::io;
-use tables::{Entry, PLACES};
+use tables::{Entry, FreeList};
+use vectors::Tally;
 use window::Machine;
 
 const WINDOWS: [u32; 7] = [0, 1, 2, 63, 64, 65, 4_294_967_295];
@@ -14,26 +16,13 @@ const PROGRAMS: [usize; 8] = [0, 3, 4, 6, 8, 16_380, 16_384, 16_388];
 
 const BYTES: [usize; 4] = [0, 1, 16_384, 16_385];
 
-// how many should be refused by 1 to 4, at 0 how many should be accepted, and how many did otherwise
-#[derive(Clone, Copy, Default)]
-struct Tally {
-    by: [u64; 5],
-    differ: u64,
-}
-
-// document 01: 1 W out of range; 2 N out of range; 3 program length; 4 data length
-fn expected(w: u32, n: u32, program: usize, bytes: usize) -> u8 {
-    if w == 0 || w > 64 {
-        1
-    } else if n < 32 || n > 95 {
-        2
-    } else if program == 0 || program > 16_384 || program % 4 != 0 {
-        3
-    } else if bytes > 16_384 {
-        4
-    } else {
-        0
-    }
+// the four numbers of a set-up
+#[derive(Clone, Copy, PartialEq, Eq, Default)]
+struct Sizes {
+    window: u32,
+    registers: u32,
+    program: usize,
+    bytes: usize,
 }
 
 // the number after k where a pool of 32 to last lies in rising order
@@ -42,9 +31,10 @@ fn rising(k: usize, last: usize) -> usize {
 }
 
 // a pool with this head, 32 to last in rising order
-fn pool_rises(head: u8, link: &[u8; PLACES], first: u8, last: usize) -> bool {
-    head == first
-        && link
+fn rises(pool: &FreeList, head: usize, last: usize) -> bool {
+    pool.head as usize == head
+        && pool
+            .link
             .iter()
             .enumerate()
             .all(|(k, next)| *next as usize == rising(k, last))
@@ -55,8 +45,8 @@ fn own(table: &[u8], n: usize) -> bool {
     table.iter().enumerate().all(|(k, number)| *number as usize == if k < n { k } else { 0 })
 }
 
-// the tables of a fresh machine where n is 32, of a machine of zeros where n is 0
-fn tables(m: &Core, n: usize, first: u8, registers: usize, names: usize) -> bool {
+// the tables of a fresh machine where n is 32, of a machine of zeros where n and the sizes are 0
+fn tables(m: &Core, n: usize, sizes: Sizes) -> bool {
     m.entries.iter().all(|e| *e == Entry::default())
         && own(&m.map.names, n)
         && own(&m.map.registers, n)
@@ -67,72 +57,109 @@ fn tables(m: &Core, n: usize, first: u8, registers: usize, names: usize) -> bool
             .all(|(k, valid)| *valid == (1 <= k && k < n))
         && own(&m.physical, n)
         && m.values.iter().all(|value| *value == 0)
-        && pool_rises(
-            m.free_registers.head,
-            &m.free_registers.link,
-            first,
-            registers,
-        )
-        && pool_rises(m.free_names.head, &m.free_names.link, first, names)
+        && rises(&m.free_registers, n, sizes.registers as usize)
+        && rises(&m.free_names, n, 31 + sizes.window as usize)
 }
 
 // what stands in no table
-fn numbers(m: &Core, w: u32, n: u32, program: usize, bytes: usize) -> bool {
-    let s = m.setup;
-    (u32::from(s.window), u32::from(s.registers)) == (w, n)
-        && (usize::from(s.program), usize::from(s.bytes)) == (program, bytes)
-        && m.count == 0
-        && m.fetch == 0
-        && m.next == 0
-        && m.halt == Stop::default()
+fn numbers(m: &Core, sizes: Sizes) -> bool {
+    let held = Sizes {
+        window: m.setup.window.into(),
+        registers: m.setup.registers.into(),
+        program: m.setup.program.into(),
+        bytes: m.setup.bytes.into(),
+    };
+    held == sizes && m.count == 0 && m.fetch == 0 && m.next == 0 && m.halt == Stop::default()
 }
 
-fn fresh(m: &Core, w: u32, n: u32, program: usize, bytes: usize) -> bool {
-    let machine = Machine { core: *m };
-    numbers(m, w, n, program, bytes)
-        && tables(m, 32, 32, n as usize, 31 + w as usize)
-        && judging::passes(m)
-        && machine.report().registers == [0; 32]
+// a machine of zeros, which 5 refuses
+fn is_zero(m: &Core) -> bool {
+    let none = Sizes::default();
+    numbers(m, none) && tables(m, 0, none) && judging::is_refused(m)
 }
 
-// whether set-up answers as expected, with a fresh machine or one of zeros, which 5 refuses
-fn right(w: u32, n: u32, program: usize, bytes: usize) -> bool {
-    let number = expected(w, n, program, bytes);
-    let answer = Machine::set_up(w, n, program, bytes);
-    let m = answer.machine.core;
-    answer.number == number
-        && if number == 0 {
-            fresh(&m, w, n, program, bytes)
+impl Sizes {
+    // document 01's refusal of them, with its number, which is written here: a test that took it from the enum would not see a
+    // wrong one
+    fn refusal(self) -> Option<(Refusal, u8)> {
+        if !(1..=64).contains(&self.window) {
+            Some((Refusal::WindowSize, 1))
+        } else if !(32..=95).contains(&self.registers) {
+            Some((Refusal::RegisterCount, 2))
+        } else if self.program == 0 || self.program > 16_384 || self.program % 4 != 0 {
+            Some((Refusal::ProgramLength, 3))
+        } else if self.bytes > 16_384 {
+            Some((Refusal::DataLength, 4))
         } else {
-            numbers(&m, 0, 0, 0, 0) && tables(&m, 0, 0, 0, 0) && judging::is_refused(&m)
+            None
         }
+    }
+
+    fn is_fresh(self, m: &Core) -> bool {
+        numbers(m, self)
+            && tables(m, 32, self)
+            && judging::passes(m)
+            && Machine { core: *m }.report().registers == [0; 32]
+    }
+
+    fn is_refused_by(self, refusal: Refusal) -> bool {
+        let made = Core::set_up(self.window, self.registers, self.program, self.bytes);
+        made.err() == Some(refusal)
+    }
+
+    // whether set-up answers as document 01 says, with a fresh machine or one of zeros
+    fn is_right(self) -> bool {
+        let answer = Machine::set_up(self.window, self.registers, self.program, self.bytes);
+        let m = answer.machine.core;
+        match self.refusal() {
+            None => answer.number == 0 && self.is_fresh(&m),
+            Some((refusal, number)) => {
+                answer.number == number && self.is_refused_by(refusal) && is_zero(&m)
+            }
+        }
+    }
 }
 
-fn every() -> Tally {
-    let mut t = Tally::default();
-    for w in WINDOWS {
-        for n in REGISTERS {
+// how many should be refused by 1 to 4, at 0 how many should be accepted; and how many did otherwise
+#[derive(Default, Drop)]
+struct Counts {
+    by: [u64; 5],
+    tally: Tally,
+}
+
+impl Counts {
+    fn count(&mut self, sizes: Sizes) {
+        let number = sizes.refusal().map_or(0, |(_, number)| number);
+        vectors::count(&mut self.by, number as usize);
+        self.tally.told(sizes.is_right());
+    }
+}
+
+fn every() -> Counts {
+    let mut counts = Counts::default();
+    for window in WINDOWS {
+        for registers in REGISTERS {
             for program in PROGRAMS {
                 for bytes in BYTES {
-                    if let Some(count) = t.by.get_mut(expected(w, n, program, bytes) as usize) {
-                        *count = count.wrapping_add(1);
-                    }
-                    if !right(w, n, program, bytes) {
-                        t.differ = t.differ.wrapping_add(1);
-                    }
+                    counts.count(Sizes {
+                        window,
+                        registers,
+                        program,
+                        bytes,
+                    });
                 }
             }
         }
     }
-    t
+    counts
 }
 
 pub fn test(rt: &impl Print) -> io::Result<()> {
-    let t = every();
-    println!(rt; "set-ups 1792")?;
+    let counts = every();
+    println!(rt; "set-ups {}", counts.tally.tested)?;
     for number in 1..5 {
-        println!(rt; "refused by {number} {}", t.by[number])?;
+        println!(rt; "refused by {number} {}", counts.by[number])?;
     }
-    println!(rt; "accepted {}", t.by[0])?;
-    println!(rt; "differ {}", t.differ)
+    println!(rt; "accepted {}", counts.by[0])?;
+    println!(rt; "differ {}", counts.tally.differ)
 }

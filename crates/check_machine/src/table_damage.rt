@@ -1,96 +1,112 @@
 // Damage to every place of a table. Index 0 and the places past a table's last are not looked at.
-use crate::judging::Tally;
+use crate::cases::Expected;
+use crate::judging::Trial;
 use crate::limits::{above, names_of};
 use renaming::Core;
 use tables::PLACES;
 
-fn put(table: &mut [u8], at: usize, number: u8) {
+// How many places a table has, the last of them that is looked at, and the highest number that may stand there.
+#[derive(Clone, Copy)]
+struct Table {
+    places: usize,
+    last: u8,
+    limit: u8,
+}
+
+// Past the end of a table nothing is put.
+pub fn put<T: Copy>(table: &mut [T], at: usize, value: T) {
     if let Some(place) = table.get_mut(at) {
-        *place = number;
+        *place = value;
     }
 }
 
 // at each place a number at the limit, one above it, and 255; the places from 1 to the last are looked at
-fn links<F: Fn(&mut Core, usize, u8)>(m: &Core, limit: u8, last: u8, t: &mut Tally, set: F)
+fn places<F: Fn(&mut Core, usize, u8)>(t: &mut Trial, table: Table, set: F)
     requires { F.IsAlwaysCallable set }
 {
-    for at in 0..PLACES {
-        let seen = 1 <= at && at <= last as usize;
-        let mut changed = *m;
-        set(&mut changed, at, limit);
-        t.in_range(&changed);
-        for number in [above(limit), 255] {
-            set(&mut changed, at, number);
-            t.damaged(&changed, seen);
-        }
+    for at in 0..table.places {
+        let beyond = if 1 <= at && at <= table.last as usize {
+            Expected::Refused
+        } else {
+            Expected::Ignored
+        };
+        let numbers = [above(table.limit), 255];
+        t.change(Expected::InRange, |m| set(m, at, table.limit));
+        t.each(beyond, &numbers, |m, n| set(m, at, n));
     }
 }
 
-pub fn register_links(m: &Core, t: &mut Tally) {
-    let registers = m.setup.registers;
-    links(m, registers, registers, t, |c, at, n| {
+// the same in a pool's links, or in the table of each name's register
+fn links<F: Fn(&mut Core, usize, u8)>(t: &mut Trial, limit: u8, last: u8, set: F)
+    requires { F.IsAlwaysCallable set }
+{
+    let table = Table {
+        places: PLACES,
+        last,
+        limit,
+    };
+    places(t, table, set);
+}
+
+pub fn register_links(t: &mut Trial) {
+    let registers = t.machine.setup.registers;
+    links(t, registers, registers, |c, at, n| {
         put(&mut c.free_registers.link, at, n);
     });
 }
 
-pub fn name_links(m: &Core, t: &mut Tally) {
-    let names = names_of(m);
-    links(m, names, names, t, |c, at, n| {
+pub fn name_links(t: &mut Trial) {
+    let names = names_of(&t.machine);
+    links(t, names, names, |c, at, n| {
         put(&mut c.free_names.link, at, n);
     });
 }
 
-pub fn physical(m: &Core, t: &mut Tally) {
-    links(m, m.setup.registers, names_of(m), t, |c, at, n| {
+pub fn physical(t: &mut Trial) {
+    let registers = t.machine.setup.registers;
+    let names = names_of(&t.machine);
+    links(t, registers, names, |c, at, n| {
         put(&mut c.physical, at, n);
     });
 }
 
-fn with_valid(m: &Core, at: usize, valid: bool) -> Core {
-    let mut changed = *m;
-    if let Some(place) = changed.map.valid.get_mut(at) {
-        *place = valid;
-    }
-    changed
-}
-
 // the same in the general map, also while the valid bit is clear
-fn maps<F: Fn(&mut Core, usize, u8)>(m: &Core, limit: u8, t: &mut Tally, set: F)
+fn maps<F: Fn(&mut Core, usize, u8)>(t: &mut Trial, limit: u8, set: F)
     requires { F.IsAlwaysCallable set }
 {
-    for at in 0..32 {
-        for start in [*m, with_valid(m, at, false)] {
-            let mut changed = start;
-            set(&mut changed, at, limit);
-            t.in_range(&changed);
-            for number in [above(limit), 255] {
-                set(&mut changed, at, number);
-                t.damaged(&changed, at != 0);
-            }
-        }
-    }
+    let table = Table {
+        places: 32,
+        last: 31,
+        limit,
+    };
+    places(t, table, &set);
+    places(t, table, |c, at, n| {
+        put(&mut c.map.valid, at, false);
+        set(c, at, n);
+    });
 }
 
-pub fn map_names(m: &Core, t: &mut Tally) {
-    maps(m, names_of(m), t, |c, at, n| put(&mut c.map.names, at, n));
+pub fn map_names(t: &mut Trial) {
+    let names = names_of(&t.machine);
+    maps(t, names, |c, at, n| put(&mut c.map.names, at, n));
 }
 
-pub fn map_registers(m: &Core, t: &mut Tally) {
-    maps(m, m.setup.registers, t, |c, at, n| {
+pub fn map_registers(t: &mut Trial) {
+    let registers = t.machine.setup.registers;
+    maps(t, registers, |c, at, n| {
         put(&mut c.map.registers, at, n);
     });
 }
 
-pub fn valid_bits(m: &Core, t: &mut Tally) {
+pub fn valid_bits(t: &mut Trial) {
+    let m = t.machine;
     for (at, valid) in m.map.valid.iter().enumerate() {
-        t.ignored(&with_valid(m, at, !*valid));
+        t.change(Expected::Ignored, |c| put(&mut c.map.valid, at, !*valid));
     }
 }
 
-pub fn values(m: &Core, t: &mut Tally) {
+pub fn values(t: &mut Trial) {
     for at in 0..PLACES {
-        let mut changed = *m;
-        changed.values[at] = 0xffff_ffff;
-        t.ignored(&changed);
+        t.change(Expected::Ignored, |c| put(&mut c.values, at, 0xffff_ffff));
     }
 }
