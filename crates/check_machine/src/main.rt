@@ -14,49 +14,41 @@ mod setups;
 mod store_cases;
 mod table_damage;
 
-use corners::over;
+use judging::Trial;
 use std::io;
 
-fn numbers(rt: &impl Print) -> io::Result<()> {
-    over(rt, "undamaged", number_damage::none)?;
-    over(rt, "W", number_damage::windows)?;
-    over(rt, "N", number_damage::registers)?;
-    over(rt, "program length", number_damage::programs)?;
-    over(rt, "data length", number_damage::bytes)?;
-    over(rt, "count", number_damage::counts)?;
-    over(rt, "head of registers", number_damage::register_heads)?;
-    over(rt, "head of names", number_damage::name_heads)?;
-    over(rt, "halt cause", number_damage::halts)?;
-    over(rt, "fetch and next address", number_damage::addresses)
-}
-
-fn tables(rt: &impl Print) -> io::Result<()> {
-    over(rt, "links of registers", table_damage::register_links)?;
-    over(rt, "links of names", table_damage::name_links)?;
-    over(rt, "physical map", table_damage::physical)?;
-    over(rt, "names of the general map", table_damage::map_names)?;
-    over(
-        rt,
-        "registers of the general map",
-        table_damage::map_registers,
-    )?;
-    over(rt, "valid bits", table_damage::valid_bits)?;
-    over(rt, "values", table_damage::values)
-}
-
-fn entries(rt: &impl Print) -> io::Result<()> {
-    over(rt, "instructions", entry_damage::instructions)?;
-    over(rt, "no instruction", entry_damage::no_instruction)?;
-    over(rt, "destination, name, previous", entry_damage::numbers)?;
-    over(rt, "operands", entry_damage::operands)?;
-    over(rt, "causes", entry_damage::causes)?;
-    over(rt, "stores", entry_damage::stores)?;
-    over(rt, "addresses and values of an entry", entry_damage::words)
-}
+// what is damaged
+const DAMAGES: [(&str, fn(&mut Trial)); 24] = [
+    ("undamaged", number_damage::none),
+    ("W", number_damage::windows),
+    ("N", number_damage::registers),
+    ("program length", number_damage::programs),
+    ("data length", number_damage::bytes),
+    ("count", number_damage::counts),
+    ("head of registers", number_damage::register_heads),
+    ("head of names", number_damage::name_heads),
+    ("halt cause", number_damage::halts),
+    ("fetch and next address", number_damage::addresses),
+    ("links of registers", table_damage::register_links),
+    ("links of names", table_damage::name_links),
+    ("physical map", table_damage::physical),
+    ("names of the general map", table_damage::map_names),
+    ("registers of the general map", table_damage::map_registers),
+    ("valid bits", table_damage::valid_bits),
+    ("values", table_damage::values),
+    ("instructions", entry_damage::instructions),
+    ("no instruction", entry_damage::no_instruction),
+    ("destination, name, previous", entry_damage::numbers),
+    ("operands", entry_damage::operands),
+    ("causes", entry_damage::causes),
+    ("stores", entry_damage::stores),
+    ("addresses and values of an entry", entry_damage::words),
+];
 
 fn main(rt: HostRuntime) -> io::Result<()> {
     setups::test(&rt)?;
-    numbers(&rt)?;
-    tables(&rt)?;
-    entries(&rt)
+    for (name, damage) in DAMAGES {
+        corners::over(&rt, name, damage)?;
+    }
+    Ok(())
 }
