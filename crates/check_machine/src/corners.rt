@@ -9,8 +9,8 @@ const WINDOWS: [u32; 4] = [1, 2, 63, 64];
 const REGISTERS: [u32; 4] = [32, 33, 94, 95];
 
 // Damages all machines in one way, and prints what came of it.
-pub fn over<F: Fn(&mut Trial)>(rt: &impl Print, name: &str, damage: F) -> io::Result<()>
-    requires { F.IsAlwaysCallable damage }
+pub fn over(rt: &impl Print, name: &str, damage: fn(&mut Trial)) -> io::Result<()>
+    requires { IsAlwaysCallable damage }
 {
     let mut trial = Trial::new();
     for (j, n) in REGISTERS.iter().enumerate() {
