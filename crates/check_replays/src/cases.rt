@@ -14,7 +14,7 @@ const PATTERN: u8 = 0xa5;
 const BUFFER: usize = formats::RESULT_LENGTH + 4;
 
 // What is lent, with the length of the lent part of the result buffer; and what must come of it: the number, the data and
-// the result.
+// the result. A number and no `Refusal`, as in the file: a test that took the numbers from the enum would not see them change.
 #[derive(Clone, Copy)]
 struct Case<'a> {
     program: &'a [u8],
@@ -57,7 +57,8 @@ fn first(bytes: &[u8]) -> Option<(Case<'_>, &[u8])>
     Some((case, rest))
 }
 
-// whether what replay hands back is what stands in the result; x0 has no place in it
+// whether what replay hands back is what stands in the result; x0 has no place in it. The order is document 01's, written once
+// more: a test that took it from the code would not see it change.
 fn shows(found: &Replayed, res: &[u8]) -> bool {
     let counts = found.counts;
     let fields = [
@@ -94,6 +95,7 @@ fn one<R: Print + Alloc<A = Global>>(rt: &R, case: Case<'_>, tally: &mut Tally) 
     let lent = case.result_length.min(BUFFER);
     let found = bench::replay(case.program, &mut data, case.schedule, &mut buffer[..lent]);
     let (res, past) = buffer.split_at(formats::RESULT_LENGTH);
+    // the file's number is 0 where nothing is refused
     let right = number_of(&found) == case.number
         && data.as_slice() == case.after
         && res == case.want
@@ -102,7 +104,8 @@ fn one<R: Print + Alloc<A = Global>>(rt: &R, case: Case<'_>, tally: &mut Tally) 
     tally.told(rt, &found, right)
 }
 
-// Replays each case, and hands back the bytes that are left: none, or those of a case that breaks off.
+// Replays each case, and hands back the bytes that are left: none, or those of a case that breaks off. A `while let` that goes
+// down what is left of the bytes: an iterator over cases would keep these bytes from what follows the loop.
 pub fn all<'a, R: Print + Alloc<A = Global>>(
     rt: &R,
     bytes: &'a [u8],

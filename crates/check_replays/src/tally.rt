@@ -1,21 +1,48 @@
 // What the cases came to, counted from what replay answered and not from what the file expects.
 use crate::cases::number_of;
 use bench::Replayed;
+use events::Counts;
 use refusals::Refusal;
 use std::io;
 
 // how many of the cases that differ are named
 const NAMED: u64 = 5;
 
-// `numbers` counts the cases by their number, and `sums` has the sums of the counts of events in the order of `SUMS`.
+// The sums of the counts of events.
+#[derive(Clone, Copy, Default)]
+struct Sums {
+    accepted: u64,
+    refused: u64,
+    committed: u64,
+    steals: u64,
+    dropped: u64,
+}
+
+impl Sums {
+    fn add(&mut self, counts: &Counts) {
+        vectors::add(&mut self.accepted, counts.accepted.into());
+        vectors::add(&mut self.refused, counts.refused.into());
+        vectors::add(&mut self.committed, counts.committed.into());
+        vectors::add(&mut self.steals, counts.steals.into());
+        vectors::add(&mut self.dropped, counts.dropped.into());
+    }
+
+    fn print(&self, rt: &impl Print) -> io::Result<()> {
+        println!(rt; "accepted {}", self.accepted)?;
+        println!(rt; "refused {}", self.refused)?;
+        println!(rt; "committed {}", self.committed)?;
+        println!(rt; "steals {}", self.steals)?;
+        println!(rt; "dropped {}", self.dropped)
+    }
+}
+
+// `numbers` counts the cases by their number.
 #[derive(Clone, Copy, Default)]
 pub struct Tally {
     cases: vectors::Tally,
     numbers: [u64; 32],
-    sums: [u64; 5],
+    sums: Sums,
 }
-
-const SUMS: [&str; 5] = ["accepted", "refused", "committed", "steals", "dropped"];
 
 impl Tally {
     // One case more. A refused replay has no counts.
@@ -26,17 +53,7 @@ impl Tally {
         right: bool,
     ) -> io::Result<()> {
         if let Ok(found) = answer {
-            let counts = found.counts;
-            let counts = [
-                counts.accepted,
-                counts.refused,
-                counts.committed,
-                counts.steals,
-                counts.dropped,
-            ];
-            for (sum, count) in self.sums.iter_mut().zip(counts) {
-                *sum = sum.wrapping_add(u64::from(count));
-            }
+            self.sums.add(&found.counts);
         }
         vectors::count(&mut self.numbers, number_of(answer) as usize);
         let named = !right && self.cases.differ < NAMED;
@@ -54,9 +71,6 @@ impl Tally {
                 println!(rt; "number {number} {cases}")?;
             }
         }
-        for (name, sum) in SUMS.iter().zip(&self.sums) {
-            println!(rt; "{name} {sum}")?;
-        }
-        Ok(())
+        self.sums.print(rt)
     }
 }

@@ -9,7 +9,7 @@ ghost use Rattle.vectors.specs.Records.{word_at, Laid};
 
 pub use files::contents;
 use std::array;
-pub use tally::{Tally, count};
+pub use tally::{Tally, add, count};
 
 // the byte at an index, 0 past the end
 fn byte(bytes: &[u8], at: usize) -> u8

@@ -1,5 +1,5 @@
 // What the records of a file came to, and things counted by a number.
-ghost use Rattle.std.specs.Prelude.{◌≡◌, ◌%◌, ◌^◌, Some, if◌then◌else◌, length};
+ghost use Rattle.std.specs.Prelude.{◌≡◌, ◌+◌, ◌%◌, ◌^◌, Some, if◌then◌else◌, length};
 ghost use Rattle.std.specs.Option.{option_or};
 ghost use Rattle.vectors.specs.Counting.{one_more, counted};
 
@@ -53,6 +53,13 @@ impl Tally {
             None => Ok(()),
         }
     }
+}
+
+// So many more.
+pub fn add(count: &mut u64, by: u64)
+    ensures { count.new ≡ (count.old + by) % 2 ^ 64 }
+{
+    *count = count.wrapping_add(by);
 }
 
 // One more of the things with this number; a number past the end is not counted.
