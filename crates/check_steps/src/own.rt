@@ -25,10 +25,7 @@ struct Answer {
 
 // 0 for none
 fn number(refusal: Option<Refusal>) -> u32 {
-    match refusal {
-        Some(refusal) => refusal as u32,
-        None => 0,
-    }
+    refusal.map_or(0, |refusal| refusal as u32)
 }
 
 impl From<Stepped> for Answer {
