@@ -42,15 +42,15 @@ impl Seen {
 
 // Whether every number is accounted for.
 pub fn holds(m: &Core) -> bool {
-    if m.count > 64 {
+    let Some(entries) = m.entries.get(..m.count as usize) else {
         return false;
-    }
+    };
     let mut registers = Seen {
         counts: [0; PLACES],
     };
     let mut names = registers;
     let ends = registers.walk(&m.free_registers) && names.walk(&m.free_names);
-    for e in &m.entries[..m.count as usize] {
+    for e in entries {
         registers.add(e.held(&m.physical));
         names.add(e.name);
     }

@@ -5,20 +5,23 @@ use crate::chance::draw;
 use isa::Instruction;
 use renaming::Core;
 use tables::State;
-use window::{Answer, Call, Machine};
+use window::{Call, Machine};
 
-// Which call is chosen, before its position or guess.
-#[derive(Clone, Copy, PartialEq, Eq)]
-enum Kind {
-    Decode,
-    Issue,
-    Complete,
-    Commit,
+// The machine after a call, and the refusal's number, none where the call is made. The number is document 01's and no
+// `Refusal`: a test that took it from the enum would not see it change.
+#[derive(Clone, Copy)]
+pub struct Answered {
+    pub after: Core,
+    pub refusal: Option<u8>,
 }
 
-pub fn made(m: &Core, program: &[u8], data: &mut [u8], call: Call) -> Answer {
+pub fn made(m: &Core, program: &[u8], data: &mut [u8], call: Call) -> Answered {
     let machine = Machine { core: *m };
-    machine.make(call, program, data)
+    let answer = machine.make(call, program, data);
+    Answered {
+        after: answer.machine.core,
+        refusal: (answer.number != 0).then_some(answer.number),
+    }
 }
 
 // With which lengths a call is made.
@@ -30,7 +33,7 @@ pub enum Lent {
 }
 
 // A call; 6 answers lengths that are not those of set-up.
-pub fn made_with(m: &Core, program: &[u8], data: &mut [u8], call: Call, lengths: Lent) -> Answer {
+pub fn made_with(m: &Core, program: &[u8], data: &mut [u8], call: Call, lengths: Lent) -> Answered {
     let mut bytes = [0u8; 3];
     match lengths {
         Lent::AsSetUp => made(m, program, data, call),
@@ -61,21 +64,7 @@ fn position_of(m: &Core, start: u32, down: bool, wanted: State) -> Option<usize>
     None
 }
 
-// mostly calls that are not refused: where the window is full seldom decode, where the oldest is not completed seldom commit
-fn chosen_kind(m: &Core, x: u32) -> Kind {
-    let full = m.count == m.setup.window;
-    let seldom = x / 16 % 16 == 0;
-    match x % 16 {
-        0..=7 if full && !seldom => Kind::Issue,
-        0..=7 => Kind::Decode,
-        8..=10 => Kind::Issue,
-        11..=13 => Kind::Complete,
-        _ if m.entries[0].state != State::Completed && !seldom => Kind::Complete,
-        _ => Kind::Commit,
-    }
-}
-
-// where a branch or jump at the fetch address would go
+// where a branch or jump at the fetch address would go; 4 is JALR, by document 01
 fn target(i: Instruction, address: u32, registers: &[u32; 32]) -> u32 {
     let constant = i.constant.cast_unsigned();
     if i.operation != 4 {
@@ -103,38 +92,50 @@ fn guess(program: &[u8], address: u32, registers: &[u32; 32], x: u32) -> u32 {
     }
 }
 
+// The call that an entry in this state needs next. `window` has the same in a drain; a test that took it from there would not
+// see it change.
+fn needed(state: State, position: usize) -> Call {
+    match state {
+        State::Waits => Call::Issue(position),
+        State::Issued => Call::Complete(position),
+        State::Completed => Call::Commit,
+    }
+}
+
 // The call that document 01's further calls make on this machine.
 pub fn further(m: &Core) -> Call {
     if m.count == 0 {
         return Call::Decode(m.fetch.wrapping_add(4));
     }
-    match m.entries[0].state {
-        State::Waits => Call::Issue(0),
-        State::Issued => Call::Complete(0),
-        State::Completed => Call::Commit,
-    }
+    needed(m.entries[0].state, 0)
 }
 
-// A call for the machine: mostly one that brings it on, sometimes any.
-pub fn chosen(m: &Core, program: &[u8], registers: &[u32; 32], seed: u32) -> Call {
-    let kind = chosen_kind(m, draw(seed, 1));
-    let x = draw(seed, 2);
-    let wanted = if kind == Kind::Issue {
-        State::Waits
-    } else {
-        State::Issued
-    };
-    let near = position_of(m, x / 64, x % 4 != 0, wanted);
+// the call that an entry in this state needs, now and then at any position; a further call where no entry is in the state
+fn for_entry(m: &Core, x: u32, state: State) -> Call {
     let position = if x % 32 == 0 {
         Some((x / 64 % 80) as usize)
     } else {
-        near
+        position_of(m, x / 64, x % 4 != 0, state)
     };
-    match (kind, position) {
-        (Kind::Decode, _) => Call::Decode(guess(program, m.fetch, registers, draw(seed, 3))),
-        (Kind::Issue, Some(position)) => Call::Issue(position),
-        (Kind::Complete, Some(position)) => Call::Complete(position),
-        (Kind::Commit, _) => Call::Commit,
-        (Kind::Issue | Kind::Complete, None) => further(m),
+    match position {
+        Some(position) => needed(state, position),
+        None => further(m),
+    }
+}
+
+// A call for the machine, mostly one that is not refused: where the window is full seldom decode, where the oldest is not
+// completed seldom commit.
+pub fn chosen(m: &Core, program: &[u8], registers: &[u32; 32], seed: u32) -> Call {
+    let pick = draw(seed, 1);
+    let x = draw(seed, 2);
+    let full = m.count == m.setup.window;
+    let seldom = pick / 16 % 16 == 0;
+    match pick % 16 {
+        0..=7 if full && !seldom => for_entry(m, x, State::Waits),
+        0..=7 => Call::Decode(guess(program, m.fetch, registers, draw(seed, 3))),
+        8..=10 => for_entry(m, x, State::Waits),
+        11..=13 => for_entry(m, x, State::Issued),
+        _ if m.entries[0].state != State::Completed && !seldom => for_entry(m, x, State::Issued),
+        _ => Call::Commit,
     }
 }

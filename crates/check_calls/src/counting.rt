@@ -1,6 +1,8 @@
 // What was seen.
+use crate::calls::Answered;
 use renaming::Core;
 use std::io;
+use vectors::add;
 use window::Call;
 
 #[derive(Clone, Copy, Default)]
@@ -19,16 +21,6 @@ pub struct Counts {
     pub rounds: u64,
     pub differences: u64,
     pub violations: u64,
-}
-
-pub fn add(count: &mut u64, by: u64) {
-    *count = count.wrapping_add(by);
-}
-
-fn add_at(counts: &mut [u64], at: u8) {
-    if let Some(count) = counts.get_mut(at as usize) {
-        add(count, 1);
-    }
 }
 
 // a destination without a cause while no register was free
@@ -61,18 +53,19 @@ impl Counts {
         if after.halt.cause == 0 {
             add(&mut self.commits, 1);
         } else {
-            add_at(&mut self.halts, after.halt.cause);
+            vectors::count(&mut self.halts, after.halt.cause as usize);
             add(&mut self.dropped, u64::from(before.count.saturating_sub(1)));
         }
     }
 
     // A call that was made.
-    pub fn made(&mut self, before: &Core, after: &Core, call: Call, number: u8) {
+    pub fn made(&mut self, before: &Core, call: Call, answered: &Answered) {
         add(&mut self.calls, 1);
-        if number != 0 {
-            add_at(&mut self.refused, number);
+        if let Some(number) = answered.refusal {
+            vectors::count(&mut self.refused, number as usize);
             return;
         }
+        let after = &answered.after;
         add(&mut self.accepted, 1);
         match call {
             Call::Decode(_) | Call::Issue(_) => {}

@@ -1,10 +1,8 @@
-// A call on a copy of the machine with one number out of range: 5, and the copy comes back as it was.
-use crate::calls;
-use crate::counting::Counts;
+// Numbers out of range.
 use renaming::Core;
-use window::{Call, Machine};
 
-fn damaged(m: &Core, k: u32) -> Core {
+// A copy of the machine with one number out of range.
+pub fn damaged(m: &Core, k: u32) -> Core {
     let mut d = *m;
     match k % 8 {
         0 => d.count = 65,
@@ -17,13 +15,4 @@ fn damaged(m: &Core, k: u32) -> Core {
         _ => d.free_names.link[32] = 255,
     }
     d
-}
-
-pub fn tried(m: &Core, program: &[u8], data: &mut [u8], call: Call, k: u32, counts: &mut Counts) {
-    let d = damaged(m, k);
-    let a = calls::made(&d, program, data, call);
-    let machine = Machine { core: d };
-    let report = machine.report();
-    counts.made(&d, &a.machine.core, call, a.number);
-    counts.expect_no_difference(a.number == 5 && report.number == 5 && a.machine.core == d);
 }

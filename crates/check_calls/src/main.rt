@@ -20,7 +20,7 @@ const LISTS: u32 = 600;
 fn main(rt: HostRuntime) -> io::Result<()> {
     let mut counts = Counts::default();
     for k in 0..LISTS {
-        lists::list(k, &mut counts);
+        counts = lists::list(rt.alloc(), k, counts)?;
     }
     counts.print(&rt)
 }

@@ -1,37 +1,45 @@
 // The in-order run beside a machine.
+use execution::Stop;
+use reference::Stepped;
 use renaming::Core;
 use window::Machine;
 
-// Registers, next address, and the cause once it stopped, which is compared with the machine's number; 255 at a refusal.
-#[derive(Clone, Copy, Default)]
+// As the last step left it.
+#[derive(Clone, Copy)]
 pub struct Ordered {
-    pub registers: [u32; 32],
-    pub address: u32,
-    pub cause: u8,
+    pub last: Stepped,
 }
 
 impl Ordered {
-    // One step further.
-    pub fn step(&mut self, program: &[u8], data: &mut [u8]) {
-        let s = reference::step(program, data, self.registers, self.address);
-        *self = Ordered {
-            registers: s.registers,
-            address: s.address,
-            cause: if s.refusal.is_none() {
-                s.stop.cause
-            } else {
-                255
+    // From address 0, with zeros in the registers.
+    pub fn fresh() -> Self {
+        Self {
+            last: Stepped {
+                registers: [0; 32],
+                address: 0,
+                stop: Stop::default(),
+                refusal: None,
             },
-        };
+        }
     }
 
-    // Whether report, next address and halt are as the in-order run has them.
+    pub fn has_ended(&self) -> bool {
+        self.last.stop != Stop::default() || self.last.refusal.is_some()
+    }
+
+    // One step further.
+    pub fn step(&mut self, program: &[u8], data: &mut [u8]) {
+        self.last = reference::step(program, data, self.last.registers, self.last.address);
+    }
+
+    // Whether report, next address and halt are as the in-order run has them. A report's number is document 01's, 0 for none.
     pub fn agrees(&self, m: &Core) -> bool {
         let machine = Machine { core: *m };
         let report = machine.report();
         report.number == 0
-            && report.registers == self.registers
-            && m.next == self.address
-            && m.halt.cause == self.cause
+            && report.registers == self.last.registers
+            && m.next == self.last.address
+            && m.halt == self.last.stop
+            && self.last.refusal.is_none()
     }
 }

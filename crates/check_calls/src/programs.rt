@@ -1,5 +1,5 @@
 // Programs and data from a seed: arithmetic on few registers, loads and stores over small data, short branches and jumps,
-// and now and then an instruction that stops.
+// and now and then an instruction that stops. The matches are of weights, which are no kinds: how often each instruction comes.
 use crate::chance::draw;
 
 // the word, or 0 where there is none
