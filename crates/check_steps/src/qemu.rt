@@ -125,7 +125,7 @@ impl Memories {
     }
 
     // Makes the step and compares; afterwards the data are as wanted. By `check::same`: a trial of the 11,000 steps takes 11 s,
-    // and with `==`, which calls the bytes' own `==`, 40 to 60 s of the 60 s that it has. Built, both are as quick.
+    // and with `==`, which calls the bytes' own `==`, 40 to 60 s of the 60 s that it has. Built, `==` takes 0.01 s, this 0.1 s.
     fn is_step_right(&mut self, q: Question) -> bool {
         let after = reference::step(&self.program, &mut self.data, q.registers, q.address);
         let same = check::same(&self.data, &self.want);
