@@ -13,7 +13,8 @@ type Record = [u8; 348];
 // more than the 16,384 bytes that a step accepts, so that too many can be lent
 const ROOM: usize = 16_400;
 
-// What a step or a run hands back, in the record's words; a step tells no number of steps.
+// What a step or a run hands back, in the record's words; a step tells no number of steps. Cause and refusal are numbers, as the
+// file has them: a test that took them from an enum would not see it change.
 #[derive(Clone, Copy, PartialEq)]
 struct Answer {
     registers: [u32; 32],
