@@ -1,7 +1,7 @@
 // The machines that are damaged: every pair of W and N at the ends of their ranges, fresh or with a full window.
 use crate::judging::Trial;
 use crate::samples;
-use renaming::Core;
+use renaming::{Core, Dimensions};
 use std::io;
 
 const WINDOWS: [u32; 4] = [1, 2, 63, 64];
@@ -21,7 +21,13 @@ pub fn over(rt: &impl Print, name: &str, damage: fn(&mut Trial)) -> io::Result<(
             } else {
                 (16_384, 4)
             };
-            if let Ok(fresh) = Core::set_up(*w, *n, program, bytes) {
+            let sizes = Dimensions {
+                window: *w,
+                registers: *n,
+                program,
+                bytes,
+            };
+            if let Ok(fresh) = Core::set_up(sizes) {
                 for machine in [fresh, samples::filled(&fresh)] {
                     trial.machine = machine;
                     damage(&mut trial);

@@ -2,7 +2,7 @@
 use crate::judging;
 use execution::Stop;
 use refusals::Refusal;
-use renaming::Core;
+use renaming::{Core, Dimensions};
 use std::io;
 use tables::{Entry, FreeList};
 use vectors::Tally;
@@ -15,15 +15,6 @@ const REGISTERS: [u32; 8] = [0, 31, 32, 33, 94, 95, 96, 4_294_967_295];
 const PROGRAMS: [usize; 8] = [0, 3, 4, 6, 8, 16_380, 16_384, 16_388];
 
 const BYTES: [usize; 4] = [0, 1, 16_384, 16_385];
-
-// the four numbers of a set-up
-#[derive(Clone, Copy, PartialEq, Eq, Default)]
-struct Sizes {
-    window: u32,
-    registers: u32,
-    program: usize,
-    bytes: usize,
-}
 
 // the number after k where a pool of 32 to last lies in rising order
 fn rising(k: usize, last: usize) -> usize {
@@ -46,7 +37,7 @@ fn own(table: &[u8], n: usize) -> bool {
 }
 
 // the tables of a fresh machine where n is 32, of a machine of zeros where n and the sizes are 0
-fn tables(m: &Core, n: usize, sizes: Sizes) -> bool {
+fn tables(m: &Core, n: usize, sizes: Dimensions) -> bool {
     m.entries.iter().all(|e| *e == Entry::default())
         && own(&m.map.names, n)
         && own(&m.map.registers, n)
@@ -62,8 +53,8 @@ fn tables(m: &Core, n: usize, sizes: Sizes) -> bool {
 }
 
 // what stands in no table
-fn numbers(m: &Core, sizes: Sizes) -> bool {
-    let held = Sizes {
+fn numbers(m: &Core, sizes: Dimensions) -> bool {
+    let held = Dimensions {
         window: m.setup.window.into(),
         registers: m.setup.registers.into(),
         program: m.setup.program.into(),
@@ -74,48 +65,47 @@ fn numbers(m: &Core, sizes: Sizes) -> bool {
 
 // a machine of zeros, which 5 refuses
 fn is_zero(m: &Core) -> bool {
-    let none = Sizes::default();
+    let none = Dimensions::default();
     numbers(m, none) && tables(m, 0, none) && judging::is_refused(m)
 }
 
-impl Sizes {
-    // document 01's refusal of them, with its number, which is written here: a test that took it from the enum would not see a
-    // wrong one
-    fn refusal(self) -> Option<(Refusal, u8)> {
-        if !(1..=64).contains(&self.window) {
-            Some((Refusal::WindowSize, 1))
-        } else if !(32..=95).contains(&self.registers) {
-            Some((Refusal::RegisterCount, 2))
-        } else if self.program == 0 || self.program > 16_384 || self.program % 4 != 0 {
-            Some((Refusal::ProgramLength, 3))
-        } else if self.bytes > 16_384 {
-            Some((Refusal::DataLength, 4))
-        } else {
-            None
-        }
+// document 01's refusal of them, with its number, which is written here: a test that took it from the enum would not see a
+// wrong one
+fn refusal(sizes: Dimensions) -> Option<(Refusal, u8)> {
+    if !(1..=64).contains(&sizes.window) {
+        Some((Refusal::WindowSize, 1))
+    } else if !(32..=95).contains(&sizes.registers) {
+        Some((Refusal::RegisterCount, 2))
+    } else if sizes.program == 0 || sizes.program > 16_384 || sizes.program % 4 != 0 {
+        Some((Refusal::ProgramLength, 3))
+    } else if sizes.bytes > 16_384 {
+        Some((Refusal::DataLength, 4))
+    } else {
+        None
     }
+}
 
-    fn is_fresh(self, m: &Core) -> bool {
-        numbers(m, self)
-            && tables(m, 32, self)
-            && judging::passes(m)
-            && Machine { core: *m }.report().registers == [0; 32]
-    }
+fn is_fresh(m: &Core, sizes: Dimensions) -> bool {
+    numbers(m, sizes)
+        && tables(m, 32, sizes)
+        && judging::passes(m)
+        && Machine { core: *m }.report().registers == [0; 32]
+}
 
-    fn is_refused_by(self, refusal: Refusal) -> bool {
-        let made = Core::set_up(self.window, self.registers, self.program, self.bytes);
-        made.err() == Some(refusal)
-    }
-
-    // whether set-up answers as document 01 says, with a fresh machine or one of zeros
-    fn is_right(self) -> bool {
-        let answer = Machine::set_up(self.window, self.registers, self.program, self.bytes);
-        let m = answer.machine.core;
-        match self.refusal() {
-            None => answer.number == 0 && self.is_fresh(&m),
-            Some((refusal, number)) => {
-                answer.number == number && self.is_refused_by(refusal) && is_zero(&m)
-            }
+// whether set-up answers as document 01 says, with a fresh machine or one of zeros
+fn is_right(sizes: Dimensions) -> bool {
+    let Dimensions {
+        window,
+        registers,
+        program,
+        bytes,
+    } = sizes;
+    let answer = Machine::set_up(window, registers, program, bytes);
+    let m = answer.machine.core;
+    match refusal(sizes) {
+        None => answer.number == 0 && is_fresh(&m, sizes),
+        Some((refusal, number)) => {
+            answer.number == number && Core::set_up(sizes).err() == Some(refusal) && is_zero(&m)
         }
     }
 }
@@ -128,10 +118,10 @@ struct Counts {
 }
 
 impl Counts {
-    fn count(&mut self, sizes: Sizes) {
-        let number = sizes.refusal().map_or(0, |(_, number)| number);
+    fn count(&mut self, sizes: Dimensions) {
+        let number = refusal(sizes).map_or(0, |(_, number)| number);
         vectors::count(&mut self.by, number as usize);
-        self.tally.told(sizes.is_right());
+        self.tally.told(is_right(sizes));
     }
 }
 
@@ -141,7 +131,7 @@ fn every() -> Counts {
         for registers in REGISTERS {
             for program in PROGRAMS {
                 for bytes in BYTES {
-                    counts.count(Sizes {
+                    counts.count(Dimensions {
                         window,
                         registers,
                         program,

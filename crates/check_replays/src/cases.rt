@@ -3,7 +3,6 @@ ghost use Rattle.std.specs.Prelude.{◌<◌, ◌≤◌, length, IfSome};
 
 use crate::tally::Tally;
 use bench::Replayed;
-use refusals::Refusal;
 use std::alloc::Global;
 use std::io;
 
@@ -80,14 +79,6 @@ fn shows(found: &Replayed, res: &[u8]) -> bool {
     same && found.registers == registers
 }
 
-// 0, or the refusal's number
-pub fn number_of(answer: &Result<Replayed, Refusal>) -> u32 {
-    match answer {
-        Ok(_) => 0,
-        Err(refusal) => u8::from(*refusal).into(),
-    }
-}
-
 // replays one case, and tells the tally
 fn one<R: Print + Alloc<A = Global>>(rt: &R, case: Case<'_>, tally: &mut Tally) -> io::Result<()> {
     let mut data = case.data.to_vec(rt.alloc())?;
@@ -96,7 +87,7 @@ fn one<R: Print + Alloc<A = Global>>(rt: &R, case: Case<'_>, tally: &mut Tally) 
     let found = bench::replay(case.program, &mut data, case.schedule, &mut buffer[..lent]);
     let (res, past) = buffer.split_at(formats::RESULT_LENGTH);
     // the file's number is 0 where nothing is refused
-    let right = number_of(&found) == case.number
+    let right = u32::from(refusals::number_of(&found)) == case.number
         && data.as_slice() == case.after
         && res == case.want
         && past == [PATTERN; 4].as_slice()

@@ -1,5 +1,4 @@
 // What the cases came to, counted from what replay answered and not from what the file expects.
-use crate::cases::number_of;
 use bench::Replayed;
 use events::Counts;
 use refusals::Refusal;
@@ -55,7 +54,7 @@ impl Tally {
         if let Ok(found) = answer {
             self.sums.add(&found.counts);
         }
-        vectors::count(&mut self.numbers, number_of(answer) as usize);
+        vectors::count(&mut self.numbers, refusals::number_of(answer).into());
         let named = !right && self.cases.differ < NAMED;
         self.cases.told(right);
         if named {

@@ -26,7 +26,7 @@ struct Answer {
 
 // 0 for none
 fn number(refusal: Option<Refusal>) -> u32 {
-    refusal.map_or(0, |refusal| refusal as u32)
+    refusal.map_or(0, u32::from)
 }
 
 impl From<Stepped> for Answer {

@@ -6,7 +6,7 @@ pub mod sizes;
 pub mod table;
 
 // The four sizes as a caller asks for them.
-#[derive(Clone, Copy, Debug, PartialEq, Eq)]
+#[derive(Clone, Copy, Debug, PartialEq, Eq, Default)]
 pub struct Dimensions {
     pub window: u32,
     pub registers: u32,
