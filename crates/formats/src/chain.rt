@@ -23,8 +23,8 @@ fn check_record(r: Record) -> Result<(), Refusal>
     Ok(())
 }
 
-// The first refusal along the chain, 22 to 25. A record met is marked, so that one reached twice is seen; no schedule has
-// more than MOST_RECORDS, and no chain more turns than records. Inner: replay uses it.
+// The first refusal along the chain, 22 to 25. A record met is marked, so that one reached twice is seen: in an array, since
+// there is no heap, and no schedule has more than MOST_RECORDS. No chain has more turns than records. Inner: replay uses it.
 pub fn check_chain(schedule: &[u8]) -> Result<(), Refusal>
     requires { schedule_fits (length schedule.now) ≡ true }
     ensures { number_of result ≡ Chain.schedule_refusal schedule.now }

@@ -14,7 +14,7 @@ pub use listing::LAST;
 pub use reader::read;
 
 // The manual's formats. Shift: an I format whose constant is a shift amount, with bits 31–25 fixed. Whole: a word
-// without fields.
+// without fields. What goes by formats is a match with an arm for each, so that the check names each that lacks a new one.
 #[derive(Clone, Copy, Debug, PartialEq, Eq)]
 pub enum Format {
     R,

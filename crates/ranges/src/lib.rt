@@ -14,7 +14,8 @@ pub struct Dimensions {
     pub bytes: usize,
 }
 
-// Window W, registers N, and the lengths of program and data, as a machine holds them.
+// Window W, registers N, and the lengths of program and data, as a machine holds them: any numbers (refusal 5), so that no
+// invariant bounds them, and what needs a small window says so.
 #[derive(Clone, Copy, Debug, PartialEq, Eq, Default)]
 pub struct Setup {
     pub window: u8,

@@ -16,8 +16,9 @@ pub use ranges::{Dimensions, Setup};
 use tables::{Entry, FreeList, GeneralMap, PLACES};
 
 // The core: all that document 01's machine holds, under 4 KB, by value. Every number may be any: refusal 5 answers those out
-// of range, so none of them is kept from a machine by an invariant; what needs few entries says so. There is no heap: the
-// entries are an array with a count.
+// of range, so none of them is kept from a machine by an invariant. What needs few entries says so, and what needs one, or one
+// at a position, too: a type for that would have to lend the core, which each of these functions changes. There is no heap:
+// the entries are an array with a count.
 #[derive(Clone, Copy, Debug, PartialEq, Eq)]
 pub struct Core {
     pub setup: Setup,
