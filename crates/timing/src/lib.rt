@@ -26,7 +26,7 @@ pub extern "C" fn timing_run(program: &[u8], data: &mut [u8], calls: u32) -> Tim
         return Timed {
             steps: 0,
             cause: 0,
-            refusal: refusal.into(),
+            refusal: u32::from(refusal),
         };
     }
     let mut values = [0u32; 32];
@@ -39,7 +39,7 @@ pub extern "C" fn timing_run(program: &[u8], data: &mut [u8], calls: u32) -> Tim
         if stop.cause != 0 {
             return Timed {
                 steps,
-                cause: stop.cause.into(),
+                cause: stop.cause as u32,
                 refusal: 0,
             };
         }
