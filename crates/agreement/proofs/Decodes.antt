@@ -14,12 +14,14 @@ use Rattle.execution.specs.Memory.{second_value}
 use Rattle.execution.specs.Execute.{stop}
 use Rattle.execution.specs.Roles.{loads, stores, predicted_next}
 use Rattle.reference.specs.Step.{State, first_source, second_source, destination}
-use Rattle.tables.specs.Table.{look_up, look_valid}
+use Rattle.tables.specs.GeneralMap.{shown}
+use Rattle.tables.specs.declared.Mapping.{Mapping}
 use Rattle.tables.specs.Operand.{is_ready, value_of}
 use Rattle.tables.specs.Entry.{empty_entry, issued_entry}
 use Rattle.tables.specs.declared.State.TheVariants.{Waits}
 use Rattle.tables.specs.declared.Entry.{Entry}
 use Rattle.tables.proofs.TableLaws.{look_zero}
+use Rattle.tables.proofs.MapLaws.{map_names, map_registers, shown_name, shown_register}
 use Rattle.renaming.specs.Changes.{entry_at}
 use Rattle.decoding.specs.Decode.{entering_stop, ended_entry, operand_on, name_for, started_entry, entry_for, decoded}
 use Rattle.issuing.specs.Issue.{store_below, issued}
@@ -45,19 +47,20 @@ names_some g m c accounting r h z q =
     z (sym a ∙ b)
 
 module _ (program : List ℕ) (s : State) (m : Core) (k : Kept m) (invariant : Invariant program s (view_of m)) where
-  zero_name_lem : get_or m.map.names 0 0 ≡ 0
+  zero_name_lem : get_or (map_names m.map) 0 0 ≡ 0
   zero_name_lem = zero_named invariant.ghost invariant.committed (view_of m) invariant.accounting
 
-  zero_register_lem : get_or m.map.registers 0 0 ≡ 0
+  zero_register_lem : get_or (map_registers m.map) 0 0 ≡ 0
   zero_register_lem = invariant.accounting.general.gives 0 ∙ ap (λ (x : ℕ). get_or m.physical x 0) zero_name_lem ∙ invariant.accounting.contents.valued.zero_register
 
-  operand_on_lem : (r : ℕ) → r < 32 → operand_on m r ≡ operand_for (get_or m.map.names r 0) (get_or m.map.registers r 0)
+  operand_on_lem : (r : ℕ) → r < 32 → operand_on m r ≡ operand_for (get_or (map_names m.map) r 0) (get_or (map_registers m.map) r 0)
   operand_on_lem r h =
-      let name : look_up m.map.names r ≡ get_or m.map.names r 0 = look_get m.map.names r zero_name_lem in
-      let register : look_up m.map.registers r ≡ get_or m.map.registers r 0 = look_get m.map.registers r zero_register_lem in
-      shown_operand_lem r (look_up m.map.names r) (look_up m.map.registers r) (look_valid m.map.valid r) (λ e. sym (look_zero m.map.names r e))
+      let x : Mapping = shown m.map r in
+      let name : x.name ≡ get_or (map_names m.map) r 0 = shown_name m.map r ∙ look_get (map_names m.map) r zero_name_lem in
+      let register : x.register ≡ get_or (map_registers m.map) r 0 = shown_register m.map r ∙ look_get (map_registers m.map) r zero_register_lem in
+      shown_operand_lem r x.name x.register x.valid (λ e. shown_name m.map r ∙ sym (look_zero (map_names m.map) r e))
       (λ z q. names_some invariant.ghost invariant.committed (view_of m) invariant.accounting r h z (sym name ∙ q)) (k.valid r)
-      ∙ ap (λ (x : ℕ). operand_for x (look_up m.map.registers r)) name ∙ ap (operand_for (get_or m.map.names r 0)) register
+      ∙ ap (λ (n : ℕ). operand_for n x.register) name ∙ ap (operand_for (get_or (map_names m.map) r 0)) register
 
   started_seen : (i : Instruction) (guess : ℕ) → Named i → started_entry m i guess ≡ started_in (view_of m) i guess
   started_seen i guess n = λ j. record {
@@ -71,7 +74,7 @@ module _ (program : List ℕ) (s : State) (m : Core) (k : Kept m) (invariant : I
     right = operand_on_lem (second_source i) n.second j;
     destination = destination i;
     name = name_for m (destination i);
-    previous = look_get m.map.names (destination i) zero_name_lem j;
+    previous = (shown_name m.map (destination i) ∙ look_get (map_names m.map) (destination i) zero_name_lem) j;
     state = Waits;
     stop = stop 0;
   }

@@ -13,7 +13,9 @@ use Rattle.reference.specs.Run.{run_of}
 use Rattle.reference.specs.Step.{State}
 use Rattle.execution.specs.declared.Stop.{Stop}
 use Rattle.tables.specs.Table.{look_up}
+use Rattle.tables.specs.GeneralMap.{shown}
 use Rattle.tables.proofs.TableLaws.{look_within}
+use Rattle.tables.proofs.MapLaws.{map_registers, shown_register}
 use Rattle.renaming.specs.Drop.{drop_to}
 use Rattle.renaming.specs.Report.{value_in}
 use Rattle.renaming.specs.declared.Core.{Core}
@@ -37,8 +39,8 @@ use Rattle.agreement.proofs.Onward.{commits_within}
 emptied_shows : (s : State) (m : Core) → Emptied s (view_of m) → (r : ℕ) → 1 ≤ r → r < 32 → value_in m r ≡ get_or s.registers r 0
 emptied_shows s m a r l h =
     let nz : r ≢ 0 = λ z. omega arith in
-    let register : look_up m.map.registers r ≡ get_or m.map.registers r 0 = sym (look_within m.map.registers r nz) in
-    ap (look_up m.values) register ∙ sym (look_within m.values (get_or m.map.registers r 0) (emptied_register s (view_of m) a r l h)) ∙ emptied_value s (view_of m) a r l h ∙ read_some s.registers r nz
+    let register : (shown m.map r).register ≡ get_or (map_registers m.map) r 0 = shown_register m.map r ∙ sym (look_within (map_registers m.map) r nz) in
+    ap (look_up m.values) register ∙ sym (look_within m.values (get_or (map_registers m.map) r 0) (emptied_register s (view_of m) a r l h)) ∙ emptied_value s (view_of m) a r l h ∙ read_some s.registers r nz
 
 module _ (program : List ℕ) (begin : State) (n : ℕ) (w : World) (r : Reached program begin n w) where
   abbrev m : Core

@@ -1,26 +1,30 @@
 -- Facts about the numbers of a machine, and that refusal 5 does not apply where they hold.
 use Prim.Native.Nat.{ℕ, zero, suc, ◌≤◌, ◌<◌}
-use mathlib.Core.Path.{◌≡◌, refl, sym, ap, ◌∙◌}
+use mathlib.Core.Path.{◌≡◌, refl, sym, ap, subst, ◌∙◌}
 use mathlib.Core.Bool.{Bool, true, false, not, ◌&&◌, ◌||◌}
 use mathlib.Core.List.{List}
 use native.Mathlib.Omega.{arith}
 use borrow.Author.Tests.{le-leb, eqb-true, eq-eqb}
 use lib.Dec.{leb, eqb}
-use lib.ListN.{length, get_or}
+use lib.ListN.{length, get_or, get_or-map}
 use Rattle.std.proofs.lemmas.Bool.{or_left, or_right}
 use Rattle.laws.proofs.Bools.{impossible, both}
 use Rattle.isa.specs.Encodes.{accepted}
 use Rattle.execution.specs.Memory.{store_ends_within}
+use Rattle.tables.specs.GeneralMap.{unmapped}
 use Rattle.tables.specs.Entry.{empty_entry, is_completed}
+use Rattle.tables.specs.declared.Mapping.{Mapping}
+use Rattle.tables.specs.declared.GeneralMap.{GeneralMap}
 use Rattle.tables.specs.declared.State.{State as Stage}
 use Rattle.tables.specs.declared.State.TheVariants.{Waits, Issued, Completed}
 use Rattle.tables.specs.declared.Entry.{Entry}
 use Rattle.ranges.specs.Sizes.{names_of, setup_in_range}
 use Rattle.renaming.specs.Range.{entries_in_range, tables_in_range, machine_in_range}
-use Rattle.ranges.specs.Tables.{within, tables_within}
+use Rattle.ranges.specs.Tables.{every_from, within, mapping_within, tables_within}
 use Rattle.ranges.specs.Entries.{entry_in_range, operand_in_range, is_none, instruction_in_range, cause_in_range, store_in_range}
 use Rattle.ranges.specs.declared.Setup.{Setup}
 use Rattle.renaming.specs.declared.Core.{Core}
+use Rattle.tables.proofs.MapLaws.{map_names, map_registers}
 use Rattle.ranges.proofs.TableLaws.{every_holds}
 use Rattle.agreement.proofs.View.{View, view_of, operand_for}
 use Rattle.agreement.proofs.Kept.{Kept}
@@ -99,14 +103,23 @@ entry_in_range_lem s e r =
 within_holds : (limit from count : ℕ) (table : List ℕ) → ((k : ℕ) → get_or table k 0 ≤ limit) → within limit from count table ≡ true
 within_holds limit from count table h = every_holds (λ (n : ℕ). leb n limit) 0 count from table (λ i l g. le-leb (get_or table i 0) limit (h i))
 
+-- names and registers of the general map
+mappings_within : (names registers : ℕ) (m : GeneralMap) → ((i : ℕ) → get_or (map_names m) i 0 ≤ names) → ((i : ℕ) → get_or (map_registers m) i 0 ≤ registers)
+    → every_from (mapping_within names registers) unmapped 1 31 m.mappings ≡ true
+mappings_within names registers m h k =
+    every_holds (mapping_within names registers) unmapped 31 1 m.mappings (λ i l g.
+    let x : Mapping = get_or m.mappings i unmapped in
+    both (le-leb x.name names (subst (λ (n : ℕ). n ≤ names) (get_or-map (λ (y : Mapping). y.name) m.mappings i unmapped) (h i)))
+    (le-leb x.register registers (subst (λ (n : ℕ). n ≤ registers) (get_or-map (λ (y : Mapping). y.register) m.mappings i unmapped) (k i))))
+
 module _ (m : Core) (k : Kept m) (r : InRange (view_of m)) where
   tables : tables_in_range m ≡ true
   unfolding tables_within
   tables =
       let n : ℕ = m.setup.registers in
       let a : ℕ = names_of m.setup.window in
-      both (both (both (both (both (both (both (le-leb m.free_registers.head n r.register_head) (within_holds n 1 n m.free_registers.link r.register_link)) (le-leb m.free_names.head a r.name_head))
-      (within_holds a 1 a m.free_names.link r.name_link)) (within_holds n 1 a m.physical r.physical)) (within_holds a 1 31 m.map.names r.names)) (within_holds n 1 31 m.map.registers r.registers))
+      both (both (both (both (both (both (le-leb m.free_registers.head n r.register_head) (within_holds n 1 n m.free_registers.link r.register_link)) (le-leb m.free_names.head a r.name_head))
+      (within_holds a 1 a m.free_names.link r.name_link)) (within_holds n 1 a m.physical r.physical)) (mappings_within a n m.map r.names r.registers))
       (le-leb m.halt.cause 7 r.halt)
 
   entries : entries_in_range m.setup m.count m.entries ≡ true

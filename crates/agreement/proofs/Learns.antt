@@ -1,6 +1,7 @@
 -- A completion with a register is `learn`; a theft is `release`, then `learn`: the victim's register goes through the empty pool.
 use Prim.Native.Nat.{ℕ, zero, suc, ◌<◌}
 use mathlib.Core.Path.{◌≡◌, refl, sym, ap, subst, ◌∙◌}
+use mathlib.Core.Bool.{true, false}
 use mathlib.Core.List.{List, [], ◌∷◌, map}
 use native.Mathlib.Omega.{arith}
 use lib.Dec.{eqb}
@@ -12,7 +13,9 @@ use Rattle.tables.specs.FreeList.{taken}
 use Rattle.tables.specs.Entry.{empty_entry, held, completed_entry, waiting_entry, sleep_entry, wake_entry}
 use Rattle.tables.specs.declared.Entry.{Entry}
 use Rattle.tables.specs.declared.FreeList.{FreeList}
+use Rattle.tables.specs.declared.Mapping.{Mapping}
 use Rattle.tables.proofs.TableLaws.{look_within, look_zero, store_within, store_zero}
+use Rattle.tables.proofs.MapLaws.{map_names, map_registers, learned_names, learned_registers}
 use Rattle.renaming.specs.Changes.{entry_at, change_first}
 use Rattle.completing.specs.Complete.{learned}
 use Rattle.stealing.specs.Steal.{robbed}
@@ -51,9 +54,11 @@ unfolding robbed release
 view_robbed v m h n =
     let e : Entry = entry_at m v in
     let q : get_or (take m.count m.entries) v empty_entry ≡ e = seen_entry m v h in
+    let lost : Mapping = record { name = e.name; register = 0; valid = false } in
     rw q (λ i. record (view_of m) {
       entries = broadcast (sleep_entry e.name) (inform_entry e.name 0) m.count v m.entries (waiting_entry e) h (λ x. sleep_entry_lem e.name x n.name) i;
-      registers = shown m.map.names m.map.registers e.destination e.name 0 n.destination i;
+      names = learned_names m.map e.destination lost i;
+      registers = (learned_registers m.map e.destination lost ∙ shown (map_names m.map) (map_registers m.map) e.destination e.name 0 n.destination) i;
       physical = sym (store_within m.physical e.name 0 n.name) i;
     })
 
@@ -65,9 +70,11 @@ view_learned i result pool m h n r =
     let e : Entry = entry_at m i in
     let q : get_or (take m.count m.entries) i empty_entry ≡ e = seen_entry m i h in
     let register : ℕ = pool.head in
+    let gained : Mapping = record { name = e.name; register = register; valid = true } in
     rw q (λ j. record (view_of m) {
       entries = broadcast (wake_entry e.name register) (inform_entry e.name register) m.count i m.entries (completed_entry result e) h (λ x. wake_entry_lem e.name register x n.name r) j;
-      registers = shown m.map.names m.map.registers e.destination e.name register n.destination j;
+      names = learned_names m.map e.destination gained j;
+      registers = (learned_registers m.map e.destination gained ∙ shown (map_names m.map) (map_registers m.map) e.destination e.name register n.destination) j;
       physical = sym (store_within m.physical e.name register n.name) j;
       values = sym (store_within m.values register result r) j;
       free_registers = taken m.free_registers;

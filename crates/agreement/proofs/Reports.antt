@@ -8,6 +8,7 @@ use lib.ListN.{length, get_or}
 use lib.Seq.{ext_get_or}
 use Rattle.tables.specs.Table.{look_up}
 use Rattle.tables.proofs.TableLaws.{look_zero}
+use Rattle.tables.proofs.MapLaws.{map_registers, shown_register}
 use Rattle.renaming.specs.Range.{machine_in_range}
 use Rattle.renaming.specs.Drop.{drop_to}
 use Rattle.renaming.specs.Report.{value_in, values_in}
@@ -17,7 +18,7 @@ use Rattle.renaming.proofs.TabulateLaws.{tabulate_length, tabulate_at}
 
 -- x0 shows no register, and no register has value 0
 zero_value_lem : (m : Core) → value_in m 0 ≡ 0
-zero_value_lem m = ap (look_up m.values) (sym (look_zero m.map.registers 0 refl)) ∙ sym (look_zero m.values 0 refl)
+zero_value_lem m = ap (look_up m.values) (shown_register m.map 0 ∙ sym (look_zero (map_registers m.map) 0 refl)) ∙ sym (look_zero m.values 0 refl)
 
 value_at : (m : Core) (registers : List ℕ) → get_or registers 0 0 ≡ 0 → ((r : ℕ) → 1 ≤ r → r < 32 → value_in m r ≡ get_or registers r 0) → (r : ℕ) → r < 32 → value_in m r ≡ get_or registers r 0
 value_at m registers z f zero h = zero_value_lem m ∙ sym z

@@ -10,6 +10,7 @@ use Rattle.tables.specs.declared.Operand.{Operand}
 use Rattle.tables.specs.declared.Operand.TheVariants.{Zero, Waiting, Ready}
 use Rattle.tables.specs.declared.Entry.{Entry}
 use Rattle.tables.specs.declared.FreeList.{FreeList}
+use Rattle.tables.proofs.MapLaws.{map_names, map_registers}
 use Rattle.ranges.specs.declared.Setup.{Setup}
 use Rattle.renaming.specs.declared.Core.{Core}
 
@@ -32,8 +33,8 @@ view_of m =
     record {
       setup = m.setup;
       entries = take m.count m.entries;
-      names = m.map.names;
-      registers = m.map.registers;
+      names = map_names m.map;
+      registers = map_registers m.map;
       physical = m.physical;
       values = m.values;
       free_registers = m.free_registers;

@@ -1,7 +1,7 @@
 -- Each change of the machine is a change of the machine as the theorem sees it.
 use Prim.Native.Nat.{ℕ, zero, suc, ◌+◌, ◌-◌, ◌≤◌, ◌<◌}
 use mathlib.Core.Path.{◌≡◌, refl, sym, ap, subst, ◌∙◌}
-use mathlib.Core.Bool.{Bool, true, false}
+use mathlib.Core.Bool.{Bool, true, false, not}
 use mathlib.Core.List.{List, [], ◌∷◌, ◌++◌}
 use native.Mathlib.Omega.{arith}
 use borrow.Author.Tests.{eq-eqb, ne_eqb}
@@ -13,8 +13,10 @@ use Rattle.execution.specs.declared.Stop.{Stop}
 use Rattle.tables.specs.Table.{look_up, store_under}
 use Rattle.tables.specs.FreeList.{freed, taken_head}
 use Rattle.tables.specs.Entry.{empty_entry, predicted_entry}
+use Rattle.tables.specs.declared.Mapping.{Mapping}
 use Rattle.tables.specs.declared.Entry.{Entry}
 use Rattle.tables.proofs.TableLaws.{store_within, store_zero}
+use Rattle.tables.proofs.MapLaws.{map_names, map_registers, mapped_names, mapped_registers}
 use Rattle.renaming.specs.Changes.{entry_at, place}
 use Rattle.decoding.specs.Decode.{enter}
 use Rattle.renaming.specs.Drop.{drop_youngest, drop_many, drop_to}
@@ -46,12 +48,15 @@ module _ (e : Entry) (m : Core) (k : Kept m) (h : m.count < m.setup.window) (z :
   entered : take (suc m.count) (set m.entries m.count e) ≡ take m.count m.entries ++ e ∷ []
   entered = let w = k.window in let l = k.entries in take-suc-set m.entries m.count e (omega arith)
 
+  abbrev renamed : Mapping
+  renamed = record { name = e.name; register = 0; valid = false }
+
   enter_at : (d : ℕ) → e.destination ≡ d → (d ≡ 0 → e.name ≡ 0) → ((d ≡ 0 → ⊥) → e.name ≡ m.free_names.head) → view_of (enter e m) ≡ append d e (view_of m)
   unfolding enter append
   enter_at zero q none some = λ i. record (view_of m) {
     entries = entered i;
-    names = sym (store_zero m.map.names e.destination e.name q) i;
-    registers = sym (store_zero m.map.registers e.destination 0 q) i;
+    names = (mapped_names m.map e.destination renamed ∙ sym (store_zero (map_names m.map) e.destination e.name q)) i;
+    registers = (mapped_registers m.map e.destination renamed ∙ sym (store_zero (map_registers m.map) e.destination 0 q)) i;
     free_names = record {
       head = ap (λ (b : Bool). choose b m.free_names.head (taken_head m.free_names.link m.free_names.head)) (eq-eqb e.destination 0 q) i;
       link = sym (store_zero m.free_names.link e.name 0 (none refl)) i;
@@ -63,8 +68,9 @@ module _ (e : Entry) (m : Core) (k : Kept m) (h : m.count < m.setup.window) (z :
       let is : e.name ≡ m.free_names.head = some (λ x. omega arith) in
       λ i. record (view_of m) {
         entries = entered i;
-        names = (sym (store_within m.map.names e.destination e.name nz) ∙ ap (λ (x : ℕ). set m.map.names x e.name) q ∙ ap (set m.map.names (suc d)) is) i;
-        registers = (sym (store_within m.map.registers e.destination 0 nz) ∙ ap (λ (x : ℕ). set m.map.registers x 0) q) i;
+        names = (mapped_names m.map e.destination renamed ∙ sym (store_within (map_names m.map) e.destination e.name nz) ∙ ap (λ (x : ℕ). set (map_names m.map) x e.name) q
+            ∙ ap (set (map_names m.map) (suc d)) is) i;
+        registers = (mapped_registers m.map e.destination renamed ∙ sym (store_within (map_registers m.map) e.destination 0 nz) ∙ ap (λ (x : ℕ). set (map_registers m.map) x 0) q) i;
         free_names = record {
           head = (ap (λ (b : Bool). choose b m.free_names.head (taken_head m.free_names.link m.free_names.head)) (ne_eqb e.destination 0 nz) ∙ look_get m.free_names.link m.free_names.head z) i;
           link = (ap (λ (x : ℕ). store_under m.free_names.link x 0) is ∙ store_set m.free_names.link m.free_names.head 0 0 (λ x. z)) i;
@@ -85,15 +91,18 @@ module _ (m : Core) (k : Kept m) (some : 0 < m.count) (t : Tidy (view_of m)) whe
       let q : get_or (take m.count m.entries) n empty_entry ≡ e = get_or-take m.count m.entries n empty_entry (omega arith) in
       let long = seen_length m k in
       let p : Plain m.physical e = subst (Plain m.physical) q (t.entries n (omega arith)) in
+      let register : ℕ = look_up (store_under m.physical e.name 0) e.previous in
+      let returned : Mapping = record { name = e.previous; register = register; valid = not (eqb register 0) } in
       let cleared : store_under m.physical e.name 0 ≡ set m.physical e.name 0 = store_set m.physical e.name 0 0 (λ x. t.physical) in
       let back : look_up (store_under m.physical e.name 0) e.previous ≡ get_or (set m.physical e.name 0) e.previous 0 =
       ap (λ (l : List ℕ). look_up l e.previous) cleared ∙ look_get (set m.physical e.name 0) e.previous (cleared_kept m.physical e.name 0 t.physical) in
-      let backless : e.destination ≡ 0 → get_or m.map.registers 0 0 ≡ get_or (set m.physical e.name 0) e.previous 0 =
+      let backless : e.destination ≡ 0 → get_or (map_registers m.map) 0 0 ≡ get_or (set m.physical e.name 0) e.previous 0 =
       λ d. t.registers ∙ sym (ap (λ (x : ℕ). get_or (set m.physical e.name 0) x 0) (p.baseless d) ∙ cleared_kept m.physical e.name 0 t.physical) in
       rw q (λ i. record (view_of m) {
         entries = (take-set-le n m.entries n empty_entry (omega arith) ∙ sym (take-take n m.count m.entries (omega arith))) i;
-        names = store_set m.map.names e.destination e.previous 0 (λ d. t.names ∙ sym (p.baseless d)) i;
-        registers = (ap (store_under m.map.registers e.destination) back ∙ store_set m.map.registers e.destination (get_or (set m.physical e.name 0) e.previous 0) 0 backless) i;
+        names = (mapped_names m.map e.destination returned ∙ store_set (map_names m.map) e.destination e.previous 0 (λ d. t.names ∙ sym (p.baseless d))) i;
+        registers = (mapped_registers m.map e.destination returned ∙ ap (store_under (map_registers m.map) e.destination) back
+            ∙ store_set (map_registers m.map) e.destination (get_or (set m.physical e.name 0) e.previous 0) 0 backless) i;
         physical = cleared i;
         free_registers = (ap (λ (n : ℕ). freed n m.free_registers) p.holds ∙ freed_lem (get_or m.physical e.name 0) m.free_registers) i;
         free_names = freed_lem e.name m.free_names i;

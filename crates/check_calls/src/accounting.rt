@@ -56,9 +56,9 @@ pub fn holds(m: &Core) -> bool {
     }
     let mut empty = *m;
     empty.drop_to(0);
-    for (register, name) in empty.map.registers.iter().zip(&empty.map.names).skip(1) {
-        registers.add(*register);
-        names.add(*name);
+    for mapping in &empty.map.mappings[1..] {
+        registers.add(mapping.register);
+        names.add(mapping.name);
     }
     ends && registers.is_each_once(m.setup.registers as usize)
         && names.is_each_once(m.setup.window as usize + 31)

@@ -9,8 +9,8 @@ pub fn damaged(m: &Core, k: u32) -> Core {
         1 => d.free_names.head = 96,
         2 => d.free_registers.head = 96,
         3 => d.physical[1] = 96,
-        4 => d.map.names[31] = 96,
-        5 => d.map.registers[1] = 96,
+        4 => d.map.mappings[31].name = 96,
+        5 => d.map.mappings[1].register = 96,
         6 => d.free_registers.link[32] = 255,
         _ => d.free_names.link[32] = 255,
     }

@@ -4,10 +4,9 @@ use tables::{Entry, GeneralMap, State};
 
 // "The general map's register is zero while valid is clear."
 fn map_rests(map: &GeneralMap) -> bool {
-    map.valid
+    map.mappings
         .iter()
-        .zip(&map.registers)
-        .all(|(valid, register)| *valid || *register == 0)
+        .all(|mapping| mapping.valid || mapping.register == 0)
 }
 
 // "A waiting entry's values and result are zero"

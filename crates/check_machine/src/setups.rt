@@ -39,13 +39,12 @@ fn own(table: &[u8], n: usize) -> bool {
 // the tables of a fresh machine where n is 32, of a machine of zeros where n and the sizes are 0
 fn tables(m: &Core, n: usize, sizes: Dimensions) -> bool {
     m.entries.iter().all(|e| *e == Entry::default())
-        && own(&m.map.names, n)
-        && own(&m.map.registers, n)
-        && m.map
-            .valid
-            .iter()
-            .enumerate()
-            .all(|(k, valid)| *valid == (1 <= k && k < n))
+        && m.map.mappings.iter().enumerate().all(|(k, mapping)| {
+            let number = if k < n { k } else { 0 };
+            mapping.name as usize == number
+                && mapping.register as usize == number
+                && mapping.valid == (1 <= k && k < n)
+        })
         && own(&m.physical, n)
         && m.values.iter().all(|value| *value == 0)
         && rises(&m.free_registers, n, sizes.registers as usize)

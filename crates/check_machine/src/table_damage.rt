@@ -3,7 +3,7 @@ use crate::cases::Expected;
 use crate::judging::Trial;
 use crate::limits::{above, names_of};
 use renaming::Core;
-use tables::PLACES;
+use tables::{Mapping, PLACES};
 
 // How many places a table has, the last of them that is looked at, and the highest number that may stand there.
 #[derive(Clone, Copy)]
@@ -70,6 +70,15 @@ pub fn physical(t: &mut Trial) {
     });
 }
 
+// one mapping of the general map changed
+fn remap<F: FnOnce(&mut Mapping)>(m: &mut Core, at: usize, change: F)
+    requires { F.IsAlwaysCallable change }
+{
+    if let Some(mapping) = m.map.mappings.get_mut(at) {
+        change(mapping);
+    }
+}
+
 // the same in the general map, also while the valid bit is clear
 fn maps<F: Fn(&mut Core, usize, u8)>(t: &mut Trial, limit: u8, set: F)
     requires { F.IsAlwaysCallable set }
@@ -81,27 +90,33 @@ fn maps<F: Fn(&mut Core, usize, u8)>(t: &mut Trial, limit: u8, set: F)
     };
     places(t, table, &set);
     places(t, table, |c, at, n| {
-        put(&mut c.map.valid, at, false);
+        remap(c, at, |mapping| mapping.valid = false);
         set(c, at, n);
     });
 }
 
 pub fn map_names(t: &mut Trial) {
     let names = names_of(&t.machine);
-    maps(t, names, |c, at, n| put(&mut c.map.names, at, n));
+    maps(
+        t,
+        names,
+        |c, at, n| remap(c, at, |mapping| mapping.name = n),
+    );
 }
 
 pub fn map_registers(t: &mut Trial) {
     let registers = t.machine.setup.registers;
     maps(t, registers, |c, at, n| {
-        put(&mut c.map.registers, at, n);
+        remap(c, at, |mapping| mapping.register = n);
     });
 }
 
 pub fn valid_bits(t: &mut Trial) {
     let m = t.machine;
-    for (at, valid) in m.map.valid.iter().enumerate() {
-        t.change(Expected::Ignored, |c| put(&mut c.map.valid, at, !*valid));
+    for at in 0..m.map.mappings.len() {
+        t.change(Expected::Ignored, |c| {
+            remap(c, at, |mapping| mapping.valid = !mapping.valid);
+        });
     }
 }
 

@@ -13,7 +13,7 @@ use execution::Outcome;
 use refusals::Refusal;
 use renaming::Core;
 use renaming::changing::Wake;
-use tables::{State, table};
+use tables::{Mapping, State, table};
 
 // what the values read come to
 fn outcome_at(core: &Core, position: usize) -> Outcome
@@ -64,7 +64,12 @@ fn learn(core: &mut Core, position: usize, register: u8, value: u32)
     core.free_registers.take();
     table::store_under(&mut core.values, register, value);
     table::store_under(&mut core.physical, e.name, register);
-    core.map.learn(e.destination, e.name, register, true);
+    let gained = Mapping {
+        name: e.name,
+        register,
+        valid: true,
+    };
+    core.map.learn(e.destination, gained);
     core.change_all(&Wake {
         name: e.name,
         register,

@@ -7,9 +7,8 @@ use Rattle.execution.specs.declared.Stop.{Stop}
 use Rattle.reference.specs.Fetch.{FetchNumbers, fetch_at}
 use Rattle.execution.specs.Roles.{stop_at_once, predicted_next}
 use Rattle.reference.specs.Step.{when, first, first_source, second_source, destination}
-use Rattle.tables.specs.Table.{look_up, look_valid}
 use Rattle.tables.specs.FreeList.{taken_head, taken_link}
-use Rattle.tables.specs.Operand.{shown_operand}
+use Rattle.tables.specs.GeneralMap.{shown, operand_in}
 use Rattle.tables.specs.declared.Operand.{Operand}
 use Rattle.tables.specs.declared.Operand.TheVariants.{Zero}
 use Rattle.tables.specs.declared.State.TheVariants.{Waits, Completed}
@@ -49,7 +48,7 @@ ended_entry address i why =
 
 -- "operands come from the general map (ready if valid)"
 abbrev pub operand_on : Core → ℕ → Operand
-operand_on m r = shown_operand r (look_up m.map.names r) (look_up m.map.registers r) (look_valid m.map.valid r)
+operand_on m r = operand_in m.map r
 
 -- "then the destination takes a name, the old name is kept, …; the entry waits"
 abbrev pub name_for : Core → ℕ → ℕ
@@ -76,7 +75,7 @@ waiting_for i address predicted left right name previous =
 abbrev pub started_entry : Core → Instruction → ℕ → Entry
 started_entry m i guess =
     waiting_for i m.fetch (predicted_next i m.fetch guess) (operand_on m (first_source i)) (operand_on m (second_source i)) (name_for m (destination i))
-    (look_up m.map.names (destination i))
+    (shown m.map (destination i)).name
 
 -- the entry that decode enters
 abbrev pub entry_for : Core → FetchNumbers → ℕ → Entry
@@ -85,7 +84,9 @@ entry_for m f guess = choose (eqb (entering_stop f).cause 0) (started_entry m f.
 -- the general map shows a name under its destination, "valid is cleared"; the pool of names is without its head where there is a destination
 abbrev pub renamed : ℕ → ℕ → Core → Core
 renamed d name m =
-    with_free_names (choose (eqb d 0) m.free_names.head (taken_head m.free_names.link m.free_names.head)) (taken_link m.free_names.link name) (map_to d name 0 false m)
+    with_free_names
+    (record { head = choose (eqb d 0) m.free_names.head (taken_head m.free_names.link m.free_names.head); link = taken_link m.free_names.link name })
+    (map_to d name 0 false m)
 
 -- an entry enters; "Fetch goes there"
 abbrev pub appended : Entry → Core → Core

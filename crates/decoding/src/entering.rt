@@ -49,7 +49,7 @@ fn started(core: &Core, i: Instruction, guess: u32) -> Entry
         right: core.map.operand(reference::second_source(i)),
         destination,
         name,
-        previous: core.map.name(destination),
+        previous: core.map.shown(destination).name,
         ..Entry::default()
     }
 }

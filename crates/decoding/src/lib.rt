@@ -11,7 +11,7 @@ ghost use Rattle.decoding.specs.Decode as Decode;
 
 use refusals::Refusal;
 use renaming::Core;
-use tables::Entry;
+use tables::{Entry, Mapping};
 
 // 10 halted; 11 window full
 #[tactic(auto, unfolding(crate::specs::Decode::decode_refusal, reference::specs::Step::first))]
@@ -33,7 +33,12 @@ fn rename(core: &mut Core, destination: u8, name: u8)
     requires { name ≡ Decode.name_for core.old destination }
     ensures { core.new ≡ Decode.renamed destination name core.old }
 {
-    core.map.set(destination, name, 0, false);
+    let renamed = Mapping {
+        name,
+        register: 0,
+        valid: false,
+    };
+    core.map.set(destination, renamed);
     if destination != 0 {
         core.free_names.take();
     }

@@ -1,11 +1,14 @@
 -- Laws of sweeps over a table.
 use Prim.Native.Nat.{ℕ, zero, suc, ◌+◌, ◌-◌, ◌≤◌, ◌<◌}
-use mathlib.Core.Path.{◌≡◌, refl, ◌∙◌}
+use mathlib.Core.Path.{◌≡◌, refl, ap, ◌∙◌}
 use mathlib.Core.Bool.{Bool, true, false, ◌&&◌}
 use mathlib.Core.List.{List}
 use native.Mathlib.Numerals.{add-one}
 use native.Mathlib.Omega.{arith}
-use lib.ListN.{get_or}
+use lib.ListN.{get_or, take, drop}
+use Rattle.std.proofs.Common.{add_comm}
+use Rattle.std.proofs.lemmas.List.{get_or-take}
+use Rattle.std.proofs.lemmas.Grind.{get_or_after_one}
 use Rattle.ranges.specs.Tables.{every_from}
 
 and_assoc : (a b c : Bool) → (a && b) && c ≡ a && (b && c)
@@ -27,6 +30,14 @@ module _ {A : Type 0} (test : A → Bool) (default : A) (count k at : ℕ) (good
   pub every_done : count ≤ k → good && every_from test default at (count - k) table ≡ good
   unfolding every_from
   every_done h = let n : count - k ≡ 0 = omega arith in rw n (and_true good)
+
+-- one turn of a loop over the elements after the first, size of them, of which k are seen
+pub every_next : {A : Type 0} (test : A → Bool) (default : A) (size count k : ℕ) (good : Bool) (table : List A) → k < size → k < count
+    → (good && test (get_or (take size (drop 1 table)) k default)) && every_from test default (k + 1 + 1) (count - (k + 1)) table ≡ good && every_from test default (k + 1) (count - k) table
+every_next test default size count k good table h l =
+    let item : get_or (take size (drop 1 table)) k default ≡ get_or table (k + 1) default =
+    get_or-take size (drop 1 table) k default h ∙ get_or_after_one table k default ∙ ap (λ (n : ℕ). get_or table n default) (add_comm 1 k) in
+    ap (λ (x : _). (good && test x) && every_from test default (k + 1 + 1) (count - (k + 1)) table) item ∙ every_turn test default count k (k + 1) good table l
 
 -- a test that passes at each index
 pub every_holds : {A : Type 0} (test : A → Bool) (default : A) (count from : ℕ) (table : List A) → ((i : ℕ) → from ≤ i → i < from + count → test (get_or table i default) ≡ true)

@@ -1,7 +1,9 @@
 -- What refusal 5 looks at in the tables.
 use Rattle.std.specs.Prelude.{ℕ, zero, suc, Bool, true, ◌&&◌, List, leb, get_or}
 use Rattle.execution.specs.declared.Stop.{Stop}
+use Rattle.tables.specs.GeneralMap.{unmapped}
 use Rattle.tables.specs.declared.FreeList.{FreeList}
+use Rattle.tables.specs.declared.Mapping.{Mapping}
 use Rattle.tables.specs.declared.GeneralMap.{GeneralMap}
 use Rattle.ranges.specs.Sizes.{last_logical, names_of}
 use Rattle.ranges.specs.declared.Setup.{Setup}
@@ -15,6 +17,10 @@ every_from test default from (suc count) table = test (get_or table from default
 abbrev pub within : ℕ → ℕ → ℕ → List ℕ → Bool
 within limit from count table = every_from (λ (n : ℕ). leb n limit) 0 from count table
 
+-- a mapping's name and register are at most these
+abbrev pub mapping_within : ℕ → ℕ → Mapping → Bool
+mapping_within last_name last_register mapping = leb mapping.name last_name && leb mapping.register last_register
+
 -- heads and links of the pools, the physical map, the general map, the halt's cause
 unfoldable pub tables_within : Setup → FreeList → FreeList → List ℕ → GeneralMap → Stop → Bool
 tables_within s free_registers free_names physical map halt =
@@ -23,6 +29,5 @@ tables_within s free_registers free_names physical map halt =
     && leb free_names.head (names_of s.window)
     && within (names_of s.window) 1 (names_of s.window) free_names.link
     && within s.registers 1 (names_of s.window) physical
-    && within (names_of s.window) 1 last_logical map.names
-    && within s.registers 1 last_logical map.registers
+    && every_from (mapping_within (names_of s.window) s.registers) unmapped 1 last_logical map.mappings
     && leb halt.cause 7

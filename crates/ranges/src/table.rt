@@ -1,7 +1,8 @@
 // What refusal 5 looks at in the tables. Tests are joined without early exit, so that loops are made of wide instructions.
 ghost use Rattle.std.specs.Prelude.{◌≡◌, ◌≤◌, ◌<◌, length};
 ghost use Rattle.ranges.specs.Tables as Tables;
-ghost use Rattle.ranges.specs.Sizes.{most_entries, most_registers};
+ghost use Rattle.ranges.specs.Sizes.{most_entries, most_registers, last_logical};
+ghost use Rattle.tables.specs.GeneralMap.{unmapped};
 
 use crate::Setup;
 use crate::sizes::LAST_LOGICAL;
@@ -16,6 +17,17 @@ fn within(limit: u8, count: u8, table: &[u8]) -> bool
     let mut good = true;
     for n in &table[1..count as usize + 1] {
         good &= *n <= limit;
+    }
+    good
+}
+
+// the mappings of registers 1 to 31 have a name and a register that are at most these
+fn mappings_within(last_name: u8, last_register: u8, map: &GeneralMap) -> bool
+    ensures { result ≡ Tables.every_from (Tables.mapping_within last_name last_register) unmapped 1 last_logical map.now.mappings }
+{
+    let mut good = true;
+    for mapping in &map.mappings[1..] {
+        good &= (mapping.name <= last_name) & (mapping.register <= last_register);
     }
     good
 }
@@ -41,7 +53,6 @@ pub fn tables_in_range(
         & (free_names.head <= names)
         & within(names, names, &free_names.link)
         & within(registers, names, physical)
-        & within(names, LAST_LOGICAL, &map.names)
-        & within(registers, LAST_LOGICAL, &map.registers)
+        & mappings_within(names, registers, map)
         & halt.is_in_range()
 }

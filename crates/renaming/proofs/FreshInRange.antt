@@ -1,20 +1,21 @@
 -- A fresh machine passes refusal 5's sweep; the statement on set-up.
 use Prim.Native.Nat.{ℕ, suc, ◌+◌, ◌-◌, ◌≤◌}
-use mathlib.Core.Path.{◌≡◌, refl, sym, subst}
+use mathlib.Core.Path.{◌≡◌, refl, sym, ap, subst, ◌∙◌}
 use mathlib.Core.Bool.{Bool, true, false, ◌&&◌}
-use mathlib.Core.List.{List, ◌++◌}
+use mathlib.Core.List.{List, ◌++◌, map}
 use native.Mathlib.Omega.{arith}
 use borrow.Author.Tests.{le-leb, ltb-true}
 use lib.Dec.{leb, ltb, leb→le}
-use lib.ListN.{get_or, replicate}
+use lib.ListN.{get_or, replicate, get_or-map}
 use Rattle.laws.proofs.Bools.{both}
 use Rattle.laws.proofs.Table.{anywhere}
 use Rattle.isa.specs.Reads.{choose}
+use Rattle.tables.specs.GeneralMap.{unmapped}
 use Rattle.ranges.specs.Sizes.{names_of, set_up_refusal}
 use Rattle.ranges.specs.declared.Setup.{Setup}
-use Rattle.renaming.specs.SetUp.{own_numbers, rising_next, rising_link, fresh_machine}
+use Rattle.renaming.specs.SetUp.{own_numbers, own_mapping, rising_next, rising_link, fresh_machine}
 use Rattle.renaming.specs.Range.{tables_in_range, machine_in_range}
-use Rattle.ranges.specs.Tables.{every_from, within, tables_within}
+use Rattle.ranges.specs.Tables.{every_from, within, mapping_within, tables_within}
 use Rattle.renaming.specs.Statement.{rising, Statement}
 use Rattle.tables.specs.FreeList.{Pool}
 use Rattle.renaming.proofs.FreshLaws.{rising_pool}
@@ -28,6 +29,14 @@ small_within table limit count small h = every_holds (λ (n : ℕ). leb n limit)
 
 own_small : (i : ℕ) → get_or own_numbers i 0 ≤ 31
 own_small i = leb→le (get_or own_numbers i 0) 31 (anywhere (λ (n : ℕ). leb n 31) own_numbers 0 tt tt i)
+
+own_within : (last_name last_register : ℕ) → 31 ≤ last_name → 31 ≤ last_register
+    → every_from (mapping_within last_name last_register) unmapped 1 31 (map own_mapping own_numbers) ≡ true
+own_within last_name last_register h k =
+    every_holds (mapping_within last_name last_register) unmapped 31 1 (map own_mapping own_numbers) (λ i l g.
+    let n : ℕ = get_or own_numbers i 0 in
+    let s = own_small i in
+    ap (mapping_within last_name last_register) (get_or-map own_mapping own_numbers i 0) ∙ both (le-leb n last_name (omega arith)) (le-leb n last_register (omega arith)))
 
 physical_small : (i : ℕ) → get_or (own_numbers ++ replicate 64 0) i 0 ≤ 31
 physical_small i = leb→le (get_or (own_numbers ++ replicate 64 0) i 0) 31 (anywhere (λ (n : ℕ). leb n 31) (own_numbers ++ replicate 64 0) 0 tt tt i)
@@ -54,8 +63,8 @@ module _ (s : Setup) (accepted : set_up_refusal s ≡ 0) where
       let n : 31 ≤ registers = omega arith in
       let w : 31 ≤ names_of window = omega arith in
       let l : names_of window ≤ 95 = omega arith in
-      both (both (both (both (both (both (both (le-leb 32 registers z.registers_from) (link_within registers z.registers_to)) (le-leb 32 (names_of window) (omega arith))) (link_within (names_of window) l))
-      (small_within (own_numbers ++ replicate 64 0) registers (names_of window) physical_small n)) (small_within own_numbers (names_of window) 31 own_small w)) (small_within own_numbers registers 31 own_small n)) refl
+      both (both (both (both (both (both (le-leb 32 registers z.registers_from) (link_within registers z.registers_to)) (le-leb 32 (names_of window) (omega arith))) (link_within (names_of window) l))
+      (small_within (own_numbers ++ replicate 64 0) registers (names_of window) physical_small n)) (own_within (names_of window) registers w n)) refl
 
   pub fresh_in_range : machine_in_range (fresh_machine s) ≡ true
   unfolding machine_in_range every_from

@@ -1,8 +1,8 @@
 -- What the calls do to a machine's tables and entries, one verb each.
 use Rattle.std.specs.Prelude.{ℕ, zero, suc, Bool, not, List, [], ◌∷◌, eqb, get_or, set}
-use Rattle.isa.specs.Reads.{choose}
 use Rattle.tables.specs.Table.{look_up, store_under}
-use Rattle.tables.specs.FreeList.{taken_head, taken_link, freed_head, freed_link}
+use Rattle.tables.specs.FreeList.{taken, freed}
+use Rattle.tables.specs.GeneralMap.{mapped, shown_by, learned}
 use Rattle.tables.specs.Entry.{empty_entry}
 use Rattle.tables.specs.declared.Entry.{Entry}
 use Rattle.renaming.specs.declared.Core.{Core}
@@ -26,21 +26,19 @@ change_all f m = with_entries (change_first m.count f m.entries) m
 
 -- the head of the pool of registers is taken; an empty pool stays
 abbrev pub take_register : Core → Core
-take_register m = with_free_registers (taken_head m.free_registers.link m.free_registers.head) (taken_link m.free_registers.link m.free_registers.head) m
+take_register m = with_free_registers (taken m.free_registers) m
 
 -- a register is freed
 abbrev pub free_register : ℕ → Core → Core
-free_register register m = with_free_registers (freed_head m.free_registers.head register) (freed_link m.free_registers.link m.free_registers.head register) m
+free_register register m = with_free_registers (freed register m.free_registers) m
 
 -- a name is freed; "The physical map holds for each name its register, zero once the name is freed."
 abbrev pub free_name : ℕ → Core → Core
-free_name name m =
-    with_physical (store_under m.physical name 0) (with_free_names (freed_head m.free_names.head name) (freed_link m.free_names.link m.free_names.head name) m)
+free_name name m = with_physical (store_under m.physical name 0) (with_free_names (freed name m.free_names) m)
 
 -- the general map holds a name, a register and a valid bit for a logical register
 abbrev pub map_to : ℕ → ℕ → ℕ → Bool → Core → Core
-map_to logical name register valid m =
-    with_map (store_under m.map.names logical name) (store_under m.map.registers logical register) (store_under m.map.valid logical valid) m
+map_to logical name register valid m = with_map (mapped logical (record { name = name; register = register; valid = valid }) m.map) m
 
 -- a name returns to the general map, "with register and valid bit from the physical map"
 abbrev pub restore : ℕ → ℕ → Core → Core
@@ -48,11 +46,9 @@ restore logical name m = map_to logical name (look_up m.physical name) (not (eqb
 
 -- whether the general map still shows a name under a logical register
 abbrev pub shows : Core → ℕ → ℕ → Bool
-shows m logical name = eqb (look_up m.map.names logical) name
+shows m logical name = shown_by m.map logical name
 
 -- both maps learn a name's register and valid bit, "the general map only if it still shows the name"
 abbrev pub maps_learn : ℕ → ℕ → ℕ → Bool → Core → Core
 maps_learn logical name register valid m =
-    with_map m.map.names (choose (shows m logical name) (store_under m.map.registers logical register) m.map.registers)
-    (choose (shows m logical name) (store_under m.map.valid logical valid) m.map.valid)
-    (with_physical (store_under m.physical name register) m)
+    with_map (learned logical (record { name = name; register = register; valid = valid }) m.map) (with_physical (store_under m.physical name register) m)

@@ -1,7 +1,8 @@
 -- The core: all that document 01's machine holds. Definitions speak of it; a buyer holds it as `window::Machine`.
-use Rattle.std.specs.Prelude.{ℕ, zero, suc, false, List, [], ◌∷◌, replicate}
+use Rattle.std.specs.Prelude.{ℕ, zero, suc, List, [], ◌∷◌, replicate}
 use Rattle.execution.specs.Execute.{stop}
 use Rattle.tables.specs.Table.{places}
+use Rattle.tables.specs.GeneralMap.{unmapped}
 use Rattle.tables.specs.Entry.{empty_entry}
 use Rattle.ranges.specs.Sizes.{setup_of, most_entries}
 use Rattle.renaming.specs.declared.Core.{Core}
@@ -21,7 +22,7 @@ zero_machine =
       setup = setup_of 0 0 0 0;
       count = 0;
       entries = replicate most_entries empty_entry;
-      map = record { names = replicate 32 0; registers = replicate 32 0; valid = replicate 32 false };
+      map = record { mappings = replicate 32 unmapped };
       physical = replicate places 0;
       values = replicate places 0;
       free_registers = record { head = 0; link = replicate places 0 };

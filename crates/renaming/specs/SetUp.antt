@@ -1,5 +1,5 @@
 -- Set-up.
-use Rattle.std.specs.Prelude.{ℕ, ◌+◌, true, false, ◌&&◌, List, [], ◌∷◌, ◌++◌, leb, ltb, eqb, replicate, Result, Ok, Err}
+use Rattle.std.specs.Prelude.{ℕ, ◌+◌, not, ◌&&◌, List, [], ◌∷◌, ◌++◌, map, leb, ltb, eqb, replicate, Result, Ok, Err}
 use Rattle.isa.specs.Reads.{choose}
 use Rattle.refusals.specs.Numbers.{number}
 use Rattle.refusals.specs.declared.Refusal.{Refusal}
@@ -7,6 +7,7 @@ use Rattle.execution.specs.Execute.{stop}
 use Rattle.tables.specs.Table.{places}
 use Rattle.tables.specs.Entry.{empty_entry}
 use Rattle.tables.specs.declared.FreeList.{FreeList}
+use Rattle.tables.specs.declared.Mapping.{Mapping}
 use Rattle.ranges.specs.Sizes.{most_entries, names_of, set_up_refusal}
 use Rattle.ranges.specs.declared.Setup.{Setup}
 use Rattle.renaming.specs.Core.{tabulate, zero_machine}
@@ -18,6 +19,10 @@ abbrev pub own_numbers : List ℕ
 own_numbers =
     0 ∷ 1 ∷ 2 ∷ 3 ∷ 4 ∷ 5 ∷ 6 ∷ 7 ∷ 8 ∷ 9 ∷ 10 ∷ 11 ∷ 12 ∷ 13 ∷ 14 ∷ 15
     ∷ 16 ∷ 17 ∷ 18 ∷ 19 ∷ 20 ∷ 21 ∷ 22 ∷ 23 ∷ 24 ∷ 25 ∷ 26 ∷ 27 ∷ 28 ∷ 29 ∷ 30 ∷ 31 ∷ []
+
+-- what a fresh machine's general map holds for a logical register
+abbrev pub own_mapping : ℕ → Mapping
+own_mapping r = record { name = r; register = r; valid = not (eqb r 0) }
 
 -- "the rest lie in the pools in rising order": 32 to last
 abbrev pub rising_next : ℕ → ℕ → ℕ
@@ -36,7 +41,7 @@ fresh_machine s =
       setup = s;
       count = 0;
       entries = replicate most_entries empty_entry;
-      map = record { names = own_numbers; registers = own_numbers; valid = false ∷ replicate 31 true };
+      map = record { mappings = map own_mapping own_numbers };
       physical = own_numbers ++ replicate most_entries 0;
       values = replicate places 0;
       free_registers = rising_pool s.registers;

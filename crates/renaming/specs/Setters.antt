@@ -1,6 +1,8 @@
 -- A machine with one of its parts changed.
-use Rattle.std.specs.Prelude.{ℕ, Bool, List}
+use Rattle.std.specs.Prelude.{ℕ, List}
 use Rattle.execution.specs.declared.Stop.{Stop}
+use Rattle.tables.specs.declared.FreeList.{FreeList}
+use Rattle.tables.specs.declared.GeneralMap.{GeneralMap}
 use Rattle.tables.specs.declared.Entry.{Entry}
 use Rattle.renaming.specs.declared.Core.{Core}
 
@@ -11,9 +13,9 @@ with_count count m = record m { count = count }
 abbrev pub with_entries : List Entry → Core → Core
 with_entries entries m = record m { entries = entries }
 
--- the general map: names, registers, valid bits
-abbrev pub with_map : List ℕ → List ℕ → List Bool → Core → Core
-with_map names registers valid m = record m { map = record { names = names; registers = registers; valid = valid } }
+-- the general map
+abbrev pub with_map : GeneralMap → Core → Core
+with_map map m = record m { map = map }
 
 -- the physical map
 abbrev pub with_physical : List ℕ → Core → Core
@@ -23,13 +25,13 @@ with_physical physical m = record m { physical = physical }
 abbrev pub with_values : List ℕ → Core → Core
 with_values values m = record m { values = values }
 
--- the pool of registers: head and links
-abbrev pub with_free_registers : ℕ → List ℕ → Core → Core
-with_free_registers head link m = record m { free_registers = record { head = head; link = link } }
+-- the pool of registers
+abbrev pub with_free_registers : FreeList → Core → Core
+with_free_registers pool m = record m { free_registers = pool }
 
--- the pool of names: head and links
-abbrev pub with_free_names : ℕ → List ℕ → Core → Core
-with_free_names head link m = record m { free_names = record { head = head; link = link } }
+-- the pool of names
+abbrev pub with_free_names : FreeList → Core → Core
+with_free_names pool m = record m { free_names = pool }
 
 -- the fetch address
 abbrev pub with_fetch : ℕ → Core → Core

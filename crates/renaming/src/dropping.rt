@@ -3,7 +3,7 @@ ghost use Rattle.renaming.specs.Drop as Drop;
 ghost use Rattle.ranges.specs.Sizes.{most_entries};
 
 use crate::Core;
-use tables::{Entry, table};
+use tables::{Entry, Mapping, table};
 
 impl Core {
     // The youngest entry's register, then its name, are freed, and the previous name returns.
@@ -21,7 +21,12 @@ impl Core {
         table::store_under(&mut self.physical, e.name, 0);
         self.free_names.free(e.name);
         let back = table::look_under(0, &self.physical, e.previous);
-        self.map.set(e.destination, e.previous, back, back != 0);
+        let returned = Mapping {
+            name: e.previous,
+            register: back,
+            valid: back != 0,
+        };
+        self.map.set(e.destination, returned);
     }
 
     // The oldest entries alone, so many: with position + 1 kept, all younger than the position are dropped. Inner: the calls

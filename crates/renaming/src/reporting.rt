@@ -12,7 +12,7 @@ impl Core {
     {
         let mut registers = [0u32; 32];
         for r in 0..32u8 {
-            registers[r as usize] = table::look_under(0, &self.values, self.map.register(r));
+            registers[r as usize] = table::look_under(0, &self.values, self.map.shown(r).register);
         }
         registers
     }

@@ -1,6 +1,6 @@
-ghost use Rattle.std.specs.Prelude.{◌≡◌, ◌≤◌};
+ghost use Rattle.std.specs.Prelude.{◌≡◌, ◌≤◌, map};
 ghost use Rattle.renaming.specs.Core as Machines;
-ghost use Rattle.renaming.specs.SetUp.{rising_next, rising_pool, fresh_machine, set_up_of, set_up_answer};
+ghost use Rattle.renaming.specs.SetUp.{own_numbers, own_mapping, rising_next, rising_pool, fresh_machine, set_up_of, set_up_answer};
 ghost use Rattle.ranges.specs.Sizes.{setup_of, most_entries};
 
 use crate::Core;
@@ -8,7 +8,7 @@ use execution::Stop;
 use ranges::sizes::{LAST_LOGICAL, MOST_ENTRIES};
 use ranges::{Dimensions, Setup};
 use refusals::Refusal;
-use tables::{Entry, FreeList, GeneralMap, PLACES};
+use tables::{Entry, FreeList, GeneralMap, Mapping, PLACES};
 
 // the number after k in a pool of 32 to last
 fn successor(k: usize, last: u8) -> u8
@@ -33,7 +33,7 @@ fn rising(last: u8) -> FreeList
     FreeList { head: 32, link }
 }
 
-// logical r has name r and register r
+// the logical registers
 const OWN: [u8; 32] = [
     0, 1, 2, 3, 4, 5, 6, 7, 8, 9, 10, 11, 12, 13, 14, 15, 16, 17, 18, 19, 20, 21, 22, 23, 24, 25,
     26, 27, 28, 29, 30, 31,
@@ -46,11 +46,16 @@ const PHYSICAL: [u8; PLACES] = [
     0, 0, 0, 0, 0, 0, 0, 0,
 ];
 
-const VALID: [bool; 32] = [
-    false, true, true, true, true, true, true, true, true, true, true, true, true, true, true,
-    true, true, true, true, true, true, true, true, true, true, true, true, true, true, true, true,
-    true,
-];
+// logical r has name r and register r, x0 none
+fn own_mappings() -> [Mapping; 32]
+    ensures { result ≡ map own_mapping own_numbers }
+{
+    OWN.map(|r| Mapping {
+        name: r,
+        register: r,
+        valid: r != 0,
+    })
+}
 
 fn fresh(setup: Setup) -> Core
     requires { setup.window ≤ most_entries }
@@ -59,9 +64,7 @@ fn fresh(setup: Setup) -> Core
     Core {
         setup,
         map: GeneralMap {
-            names: OWN,
-            registers: OWN,
-            valid: VALID,
+            mappings: own_mappings(),
         },
         physical: PHYSICAL,
         free_registers: rising(setup.registers),
@@ -84,9 +87,7 @@ impl Core {
             count: 0,
             entries: [Entry::default(); MOST_ENTRIES],
             map: GeneralMap {
-                names: [0; 32],
-                registers: [0; 32],
-                valid: [false; 32],
+                mappings: [Mapping::default(); 32],
             },
             physical: [0; PLACES],
             values: [0; PLACES],

@@ -7,7 +7,7 @@ ghost use Rattle.ranges.specs.Sizes.{most_entries};
 
 use renaming::Core;
 use renaming::changing::Sleep;
-use tables::table;
+use tables::{Mapping, table};
 
 // The youngest entry that holds a register, if it is younger than the caller; else the caller's position. Inner: complete
 // uses it. A number and no Option, since document 01 ("The form to use in each place") wants the caller's position there.
@@ -37,7 +37,12 @@ pub fn rob(core: &mut Core, victim: usize)
 {
     let e = core.entries[victim];
     core.entries[victim].wait();
-    core.map.learn(e.destination, e.name, 0, false);
+    let lost = Mapping {
+        name: e.name,
+        register: 0,
+        valid: false,
+    };
+    core.map.learn(e.destination, lost);
     table::store_under(&mut core.physical, e.name, 0);
     core.change_all(&Sleep { name: e.name });
 }

@@ -1,5 +1,5 @@
 -- Tables by number. "Zero means none and reads as value 0; … storing under it, does nothing."
-use Rattle.std.specs.Prelude.{ℕ, Bool, false, List, eqb, get_or, set}
+use Rattle.std.specs.Prelude.{ℕ, List, eqb, get_or, set}
 use Rattle.isa.specs.Reads.{choose}
 
 -- the places of a table of registers or of names: 0, which is nobody's, and 1 to 95
@@ -12,9 +12,6 @@ look_under none table n = choose (eqb n 0) none (get_or table n none)
 
 abbrev pub look_up : List ℕ → ℕ → ℕ
 look_up table n = look_under 0 table n
-
-abbrev pub look_valid : List Bool → ℕ → Bool
-look_valid table n = look_under false table n
 
 unfoldable pub store_under : {A : Type 0} → List A → ℕ → A → List A
 store_under table n value = choose (eqb n 0) table (set table n value)

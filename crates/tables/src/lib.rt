@@ -22,12 +22,18 @@ pub struct FreeList {
     pub link: [u8; PLACES],
 }
 
+// What the general map holds for a logical register. The default is none.
+#[derive(Clone, Copy, Debug, PartialEq, Eq, Default)]
+pub struct Mapping {
+    pub name: u8,
+    pub register: u8,
+    pub valid: bool,
+}
+
 // For each logical register a name, a register and a valid bit.
 #[derive(Clone, Copy, Debug, PartialEq, Eq)]
 pub struct GeneralMap {
-    pub names: [u8; 32],
-    pub registers: [u8; 32],
-    pub valid: [bool; 32],
+    pub mappings: [Mapping; 32],
 }
 
 // An operand is zero, waiting on a name, or ready with a name and a register.

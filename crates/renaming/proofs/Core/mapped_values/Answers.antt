@@ -1,6 +1,7 @@
 use Rattle.std.proofs.Common.{◌∙◌, sym, ap, length-set, arith}
 use lib.Seq.{ext_get_or}
 use Rattle.tables.specs.Table.{look_up}
+use Rattle.tables.specs.declared.Mapping.{Mapping}
 use Rattle.renaming.specs.Report.{value_in, values_in}
 use Rattle.renaming.proofs.TabulateLaws.{tabulate_length, tabulate_at, filled_more}
 use Rattle.renaming.proofs.Core.mapped_values.Goals as goal
@@ -11,7 +12,7 @@ loop-r-preserved c =
     let l = c.loop-r in
     record {
       long = length-set l.registers l.r c.look_under.result ∙ l.invariant.long;
-      filled = filled_more l.registers l.r (value_in m) c.look_under.result (omega arith) (c.look_under.ensures ∙ ap (look_up m.values) c.register.ensures) l.invariant.filled;
+      filled = filled_more l.registers l.r (value_in m) c.look_under.result (omega arith) (c.look_under.ensures ∙ ap (λ (x : Mapping). look_up m.values x.register) c.shown.ensures) l.invariant.filled;
     }
 
 pub returns : goal.returns
