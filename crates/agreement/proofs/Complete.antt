@@ -5,9 +5,8 @@ use mathlib.Core.Logic.{◌≢◌}
 use mathlib.Core.List.{List}
 use native.Mathlib.Omega.{arith}
 use lib.ListN.{length, get_or}
-use Rattle.execution.specs.Execute.{executed}
+use Rattle.execution.specs.Execute.{executed, Outcome}
 use Rattle.reference.specs.Step.{State, Step, destination, read_register, first_of, second_of}
-use Rattle.execution.specs.declared.Outcome.{Outcome}
 use Rattle.tables.specs.Entry.{completed_entry, stopped_entry, predicted_entry}
 use Rattle.tables.specs.declared.State.TheVariants.{Issued}
 use Rattle.tables.specs.declared.Entry.{Entry}

@@ -8,7 +8,7 @@ use lib.ListN.{length, get_or, set, take, length-set, length-map, get_or-map}
 use lib.Seq.{get_or-set_same, get_or-set_other}
 use Rattle.laws.proofs.Lists.{get_d_within}
 use Rattle.reference.specs.Step.{State}
-use Rattle.execution.specs.declared.Outcome.{Outcome}
+use Rattle.execution.specs.Execute.{Outcome}
 use Rattle.tables.specs.Entry.{empty_entry, held, completed_entry, stopped_entry, waiting_entry}
 use Rattle.tables.specs.declared.State.TheVariants.{Issued, Completed}
 use Rattle.tables.specs.declared.Entry.{Entry}

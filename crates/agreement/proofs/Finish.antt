@@ -6,9 +6,8 @@ use mathlib.Core.List.{List, ◌∷◌, map}
 use native.Mathlib.Omega.{arith}
 use lib.ListN.{length, get_or, set, take, length-set, length-map, get_or-map}
 use lib.Seq.{get_or-set_other}
-use Rattle.execution.specs.Execute.{executed}
+use Rattle.execution.specs.Execute.{executed, Outcome}
 use Rattle.reference.specs.Step.{State, destination}
-use Rattle.execution.specs.declared.Outcome.{Outcome}
 use Rattle.tables.specs.Entry.{empty_entry, waiting_entry, completed_entry, stopped_entry}
 use Rattle.tables.specs.declared.State.TheVariants.{Issued, Completed}
 use Rattle.tables.specs.declared.Entry.{Entry}

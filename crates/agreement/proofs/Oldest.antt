@@ -8,7 +8,7 @@ use lib.ListN.{length, get_or, set, length-set}
 use lib.Seq.{get_or-set_same, get_or-set_other}
 use Rattle.reference.specs.Fetch.{FetchNumbers, fetch_at}
 use Rattle.execution.specs.declared.Stop.{Stop}
-use Rattle.execution.specs.declared.Outcome.{Outcome}
+use Rattle.execution.specs.Execute.{Outcome}
 use Rattle.tables.specs.Entry.{empty_entry, completed_entry, stopped_entry, predicted_entry, waiting_entry, wake_entry, sleep_entry}
 use Rattle.tables.specs.declared.State.{State as Stage}
 use Rattle.tables.specs.declared.State.TheVariants.{Waits, Issued, Completed}

@@ -15,13 +15,12 @@ use Rattle.isa.specs.Encodes.{accepted}
 use Rattle.isa.specs.Reads.{choose}
 use Rattle.isa.specs.declared.Instruction.{Instruction}
 use Rattle.isa.proofs.Accepted.{accepted_holds}
-use Rattle.execution.specs.Execute.{stop, executed}
+use Rattle.execution.specs.Execute.{stop, executed, Outcome}
 use Rattle.reference.specs.Fetch.{FetchNumbers, fetch_at}
 use Rattle.execution.specs.Memory.{stored, store_ends_within}
 use Rattle.execution.specs.Roles.{stop_at_once}
 use Rattle.reference.specs.Step.{State, Step, first_source, second_source, first_of, second_of, reached, stopped_at, settled, destination, write_register, step_with, step_of}
 use Rattle.execution.specs.declared.Stop.{Stop}
-use Rattle.execution.specs.declared.Outcome.{Outcome}
 use Rattle.reference.proofs.FetchLaws.{fetched_accepted, fetched_missing}
 use Rattle.execution.proofs.OutcomeLaws.{executed_proper, executed_ends}
 use Rattle.tables.specs.Table.{look_up}

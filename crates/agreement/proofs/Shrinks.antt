@@ -5,7 +5,7 @@ use mathlib.Core.List.{List}
 use native.Mathlib.Omega.{arith}
 use lib.Dec.{eqb}
 use lib.ListN.{length, set, length-set}
-use Rattle.execution.specs.declared.Outcome.{Outcome}
+use Rattle.execution.specs.Execute.{Outcome}
 use Rattle.tables.specs.Entry.{empty_entry, completed_entry, stopped_entry, predicted_entry, waiting_entry, wake_entry, sleep_entry}
 use Rattle.tables.specs.declared.Entry.{Entry}
 use Rattle.renaming.specs.Changes.{entry_at, place}

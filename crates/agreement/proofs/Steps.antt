@@ -20,12 +20,11 @@ use Rattle.execution.specs.Actions.{action_of}
 use Rattle.execution.specs.declared.Action.{Action}
 use Rattle.execution.specs.declared.Action.TheVariants.{Computes, LoadsSigned, LoadsUnsigned, Stores, Stops}
 use Rattle.execution.specs.Memory.{accessible, second_by, second_value, stored_by, stored}
-use Rattle.execution.specs.Execute.{stop, executed_by, executed}
+use Rattle.execution.specs.Execute.{stop, executed_by, executed, Outcome}
 use Rattle.execution.specs.Roles.{loads_by, loads, stores_by, stores, stop_by, stop_at_once}
 use Rattle.reference.specs.Fetch.{FetchNumbers, no_instruction, of_reading, outside, fetch_at}
 use Rattle.reference.specs.Step.{State, Step, first_source, second_source, destination, read_register, write_register, reached, stopped_at, settled, first_of, second_of, step_with, step_of}
 use Rattle.execution.specs.declared.Stop.{Stop}
-use Rattle.execution.specs.declared.Outcome.{Outcome}
 use Rattle.reference.proofs.StepLaws.{choose_either, step_registers}
 use Rattle.reference.proofs.Laws.{statement}
 use Rattle.decoding.specs.Decode.{entering_stop}

@@ -1,9 +1,8 @@
 -- Complete.
 use Rattle.std.specs.Prelude.{ℕ, suc, Bool, true, not, ◌&&◌, List, [], ◌∷◌, eqb}
 use Rattle.isa.specs.Reads.{choose}
-use Rattle.execution.specs.Execute.{executed}
+use Rattle.execution.specs.Execute.{executed, Outcome}
 use Rattle.reference.specs.Step.{when, first}
-use Rattle.execution.specs.declared.Outcome.{Outcome}
 use Rattle.tables.specs.Table.{store_under}
 use Rattle.tables.specs.Entry.{is_issued, stopped_entry, completed_entry, predicted_entry, wake_entry, held}
 use Rattle.tables.specs.declared.Entry.{Entry}

@@ -4,22 +4,24 @@
 ghost use Rattle.std.specs.Prelude.{◌≡◌, true, false, not, ◌&&◌, ◌≤◌, ◌<◌, IfOk, IfErr};
 ghost use Rattle.refusals.specs.Numbers.{number};
 ghost use Rattle.renaming.specs.Answer.{answer};
+ghost use Rattle.execution.specs.Execute.{outcome};
+ghost use Rattle.renaming.specs.Changes.{entry_at};
 ghost use Rattle.completing.specs.Complete as Complete;
 ghost use Rattle.completing.specs.Complete.{needs_register, none_free};
 ghost use Rattle.stealing.specs.Steal.{no_victim};
 ghost use Rattle.ranges.specs.Sizes.{most_entries};
 
-use execution::Outcome;
+use execution::{Cause, Executed};
 use refusals::Refusal;
 use renaming::Core;
 use renaming::changing::Wake;
 use tables::{Mapping, State, table};
 
 // what the values read come to
-fn outcome_at(core: &Core, position: usize) -> Outcome
+fn execute_at(core: &Core, position: usize) -> Result<Executed, Cause>
     requires inside { position < core.now.count }
     requires few { core.now.count ≤ most_entries }
-    ensures { result ≡ Complete.outcome_at core.now position }
+    ensures { outcome (entry_at core.now position).address result ≡ Complete.outcome_at core.now position }
 {
     let e = &core.entries[position];
     execution::execute(
@@ -117,12 +119,15 @@ pub fn complete_within(core: &mut Core, position: usize) -> Result<bool, Refusal
     ensures stole { IfOk result (λ stole. stole ≡ (needs_register core.old position && none_free core.old)) }
 {
     core.check_entry(position, State::Issued)?;
-    let outcome = outcome_at(core, position);
-    if outcome.stop.cause != 0 {
-        core.entries[position].end(outcome.stop);
-        return Ok(false);
+    match execute_at(core, position) {
+        Err(cause) => {
+            core.entries[position].end(cause.into());
+            Ok(false)
+        }
+        Ok(executed) => {
+            let stole = give(core, position, executed.result)?;
+            redirect(core, position, executed.next);
+            Ok(stole)
+        }
     }
-    let stole = give(core, position, outcome.result)?;
-    redirect(core, position, outcome.next);
-    Ok(stole)
 }

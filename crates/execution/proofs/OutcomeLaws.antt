@@ -9,8 +9,7 @@ use Rattle.isa.specs.Reads.{choose}
 use Rattle.isa.specs.declared.Instruction.{Instruction}
 use Rattle.word.specs.Arithmetic.{sum}
 use Rattle.word.specs.Signed.{word_of}
-use Rattle.execution.specs.declared.Cause.{Cause}
-use Rattle.execution.specs.declared.Cause.TheVariants.{Illegal, EnvironmentCall, Breakpoint, Fetch, Target, Load, Store}
+use Rattle.execution.proofs.CauseLaws.{cause_small}
 use Rattle.execution.specs.Causes.{cause_number}
 use Rattle.execution.specs.declared.Computation.{Computation}
 use Rattle.execution.specs.declared.Computation.TheVariants.{Upper, UpperAddress, Jump, JumpRegister, Branch, Immediate, Register}
@@ -18,8 +17,7 @@ use Rattle.execution.specs.declared.Action.{Action}
 use Rattle.execution.specs.declared.Action.TheVariants.{Computes, LoadsSigned, LoadsUnsigned, Stores, Stops}
 use Rattle.execution.specs.Actions.{action_of}
 use Rattle.execution.specs.Memory.{accessible, ends_within_by, store_ends_within}
-use Rattle.execution.specs.Execute.{goes, stops, jumps, onward, holds, performed, executed_by, executed}
-use Rattle.execution.specs.declared.Outcome.{Outcome}
+use Rattle.execution.specs.Execute.{goes, stops, jumps, onward, holds, performed, executed_by, executed, Outcome}
 
 -- a stop's cause is at most 7, and its next address the instruction's own
 pub record Proper (address : ℕ) (o : Outcome) : Type 0 where
@@ -53,16 +51,6 @@ proper_performed (Register alu) address c first second = proper_goes address _ _
 proper_access : (b : Bool) (address cause result : ℕ) → cause ≤ 7 → Proper address (choose b (goes result (onward address)) (stops address cause))
 proper_access b address cause result h =
     proper_choose address b (goes result (onward address)) (stops address cause) (proper_goes address result (onward address)) (proper_stops address cause h)
-
--- the causes of operations that stop
-cause_small : (cause : Cause) → cause_number cause ≤ 7
-cause_small Illegal = omega arith
-cause_small EnvironmentCall = omega arith
-cause_small Breakpoint = omega arith
-cause_small Fetch = omega arith
-cause_small Target = omega arith
-cause_small Load = omega arith
-cause_small Store = omega arith
 
 proper_by : (a : Action) (bytes address c first second : ℕ) → Proper address (executed_by a bytes address c first second)
 unfolding executed_by

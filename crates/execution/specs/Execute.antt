@@ -1,5 +1,5 @@
 -- Result, next address and stop of an instruction, from its address and the two values read.
-use Rattle.std.specs.Prelude.{ℕ, ◌*◌, ◌/◌, ◌%◌, Bool, not, ltb, leb, eqb}
+use Rattle.std.specs.Prelude.{Option, None, Some, Result, Ok, Err, ℕ, ◌*◌, ◌/◌, ◌%◌, Bool, not, ltb, leb, eqb}
 use Rattle.std.specs.Int.Bits.{bit_and, bit_or, bit_xor}
 use mir.Val.{bool_byte}
 use Rattle.word.specs.Arithmetic.{sum, difference, shift_left, shift_right, shift_right_signed, less_signed}
@@ -17,8 +17,9 @@ use Rattle.execution.specs.declared.Action.TheVariants.{Computes, LoadsSigned, L
 use Rattle.execution.specs.Causes.{cause_number}
 use Rattle.execution.specs.Actions.{action_of}
 use Rattle.execution.specs.Memory.{accessible}
+use Rattle.execution.specs.declared.Cause.{Cause}
 use Rattle.execution.specs.declared.Stop.{Stop}
-use Rattle.execution.specs.declared.Outcome.{Outcome}
+use Rattle.execution.specs.declared.Executed.{Executed}
 
 -- a shift takes the lowest five bits of its second operand; a test gives 1 or 0
 abbrev pub compute : Alu → ℕ → ℕ → ℕ
@@ -44,6 +45,17 @@ holds Geu a b = leb b a
 abbrev pub stop : ℕ → Stop
 stop cause = record { cause = cause }
 
+-- the stop of a cause, and that of none
+abbrev pub stop_for : Option Cause → Stop
+stop_for None = stop 0
+stop_for (Some cause) = stop (cause_number cause)
+
+-- result, next address and stop; with a stop the result is 0 and the next address the instruction's own
+pub record Outcome : Type 0 where
+  pub result : ℕ
+  pub next : ℕ
+  pub stop : Stop
+
 abbrev pub onward : ℕ → ℕ
 onward address = sum address 4
 
@@ -52,6 +64,11 @@ goes result next = record { result = result; next = next; stop = stop 0 }
 
 abbrev pub stops : ℕ → ℕ → Outcome
 stops address cause = record { result = 0; next = address; stop = stop cause }
+
+-- what is answered for an instruction at an address, in these numbers
+abbrev pub outcome : ℕ → Result Executed Cause → Outcome
+outcome address (Ok e) = goes e.result e.next
+outcome address (Err cause) = stops address (cause_number cause)
 
 -- cause 5: "taken branch or jump to a target not a multiple of 4"
 abbrev pub jumps : ℕ → ℕ → ℕ → Outcome

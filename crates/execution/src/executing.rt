@@ -3,11 +3,10 @@ ghost use Rattle.word.specs.Arithmetic.{sum};
 ghost use Rattle.isa.specs.Reads.{choose};
 ghost use Rattle.execution.specs.Causes.{cause_number};
 ghost use Rattle.execution.specs.Execute as Execute;
+ghost use Rattle.execution.specs.Execute.{outcome};
 ghost use Rattle.execution.specs.Memory as Memory;
 
-use crate::{
-    Action, Cause, Computation, Condition, Inputs, Outcome, Stop, actions, arithmetic, memory,
-};
+use crate::{Action, Cause, Computation, Condition, Executed, Inputs, actions, arithmetic, memory};
 use isa::Instruction;
 
 fn onward(address: u32) -> u32
@@ -16,93 +15,82 @@ fn onward(address: u32) -> u32
     word::add(address, 4)
 }
 
-fn goes(value: u32, next: u32) -> Outcome
-    ensures { result ≡ Execute.goes value next }
+fn goes(value: u32, next: u32) -> Executed
+    ensures { result ≡ record { result = value; next = next } }
 {
-    Outcome {
+    Executed {
         result: value,
         next,
-        stop: Stop::NONE,
     }
 }
 
-fn stops(address: u32, cause: Cause) -> Outcome
-    ensures { result ≡ Execute.stops address (cause_number cause) }
+fn jumps(given: Inputs, value: u32, target: u32) -> Result<Executed, Cause>
+    ensures { outcome given.address result ≡ Execute.jumps given.address value target }
 {
-    Outcome {
-        result: 0,
-        next: address,
-        stop: cause.into(),
+    if target % 4 != 0 {
+        return Err(Cause::Target);
     }
+    Ok(goes(value, target))
 }
 
-fn jumps(given: Inputs, value: u32, target: u32) -> Outcome
-    ensures { result ≡ Execute.jumps given.address value target }
-{
-    if target % 4 == 0 {
-        goes(value, target)
-    } else {
-        stops(given.address, Cause::Target)
-    }
-}
-
-fn branches(condition: Condition, given: Inputs) -> Outcome
-    ensures { result ≡ Execute.performed (Computation.Branch condition) given.address given.constant given.first given.second }
+fn branches(condition: Condition, given: Inputs) -> Result<Executed, Cause>
+    ensures { outcome given.address result ≡ Execute.performed (Computation.Branch condition) given.address given.constant given.first given.second }
 {
     if arithmetic::holds(condition, given.first, given.second) {
         jumps(given, 0, word::add(given.address, given.constant))
     } else {
-        goes(0, onward(given.address))
+        Ok(goes(0, onward(given.address)))
     }
 }
 
 // a load or a store, which stops with this cause where its bytes cannot be accessed
-fn accesses(bytes: usize, size: u8, cause: Cause, given: Inputs, value: u32) -> Outcome
-    ensures { result ≡ choose (Memory.accessible bytes (sum given.first given.constant) size) (Execute.goes value (Execute.onward given.address)) (Execute.stops given.address (cause_number cause)) }
+fn accesses(
+    bytes: usize,
+    size: u8,
+    cause: Cause,
+    given: Inputs,
+    value: u32,
+) -> Result<Executed, Cause>
+    ensures { outcome given.address result ≡ choose (Memory.accessible bytes (sum given.first given.constant) size) (Execute.goes value (Execute.onward given.address)) (Execute.stops given.address (cause_number cause)) }
 {
     let at = word::add(given.first, given.constant);
-    if memory::accessible(bytes, at, size) {
-        goes(value, onward(given.address))
-    } else {
-        stops(given.address, cause)
+    if !memory::accessible(bytes, at, size) {
+        return Err(cause);
     }
+    Ok(goes(value, onward(given.address)))
 }
 
 // what a computation comes to
-fn computes(computation: Computation, given: Inputs) -> Outcome
-    ensures { result ≡ Execute.performed computation given.address given.constant given.first given.second }
+fn computes(computation: Computation, given: Inputs) -> Result<Executed, Cause>
+    ensures { outcome given.address result ≡ Execute.performed computation given.address given.constant given.first given.second }
 {
     let next = onward(given.address);
-    match computation {
-        Computation::Upper => goes(word::shift_left(given.constant, 12), next),
-        Computation::UpperAddress => {
-            let upper = word::shift_left(given.constant, 12);
-            goes(word::add(given.address, upper), next)
+    let value = match computation {
+        Computation::Jump => {
+            return jumps(given, next, word::add(given.address, given.constant));
         }
-        Computation::Jump => jumps(given, next, word::add(given.address, given.constant)),
         Computation::JumpRegister => {
-            jumps(given, next, word::add(given.first, given.constant) / 2 * 2)
+            return jumps(given, next, word::add(given.first, given.constant) / 2 * 2);
         }
-        Computation::Branch(condition) => branches(condition, given),
+        Computation::Branch(condition) => return branches(condition, given),
+        Computation::Upper => word::shift_left(given.constant, 12),
+        Computation::UpperAddress => {
+            word::add(given.address, word::shift_left(given.constant, 12))
+        }
         Computation::Immediate(function) => {
-            goes(
-                arithmetic::compute(function, given.first, given.constant),
-                next,
-            )
+            arithmetic::compute(function, given.first, given.constant)
         }
         Computation::Register(function) => {
-            goes(
-                arithmetic::compute(function, given.first, given.second),
-                next,
-            )
+            arithmetic::compute(function, given.first, given.second)
         }
-    }
+    };
+    Ok(goes(value, next))
 }
 
 // what an action comes to. Inner: the step uses it.
 #[tactic(auto, unfolding(crate::specs::Execute::executed_by))]
-pub fn perform(action: Action, bytes: usize, given: Inputs) -> Outcome
-    ensures { result ≡ Execute.executed_by action bytes given.address given.constant given.first given.second }
+pub fn perform(action: Action, bytes: usize, given: Inputs) -> Result<Executed, Cause>
+    ensures { outcome given.address result ≡ Execute.executed_by action bytes given.address given.constant given.first given.second }
 {
     match action {
         Action::Computes(computation) => computes(computation, given),
@@ -110,14 +98,20 @@ pub fn perform(action: Action, bytes: usize, given: Inputs) -> Outcome
             accesses(bytes, size, Cause::Load, given, given.second)
         }
         Action::Stores(size) => accesses(bytes, size, Cause::Store, given, 0),
-        Action::Stops(cause) => stops(given.address, cause),
+        Action::Stops(cause) => Err(cause),
     }
 }
 
-// Result, next address and stop of an instruction, from its address and the two values read.
+// Result and next address of an instruction, or the cause of its stop, from its address and the two values read.
 // Inner: the step and the calls use it.
-pub fn execute(bytes: usize, i: Instruction, address: u32, first: u32, second: u32) -> Outcome
-    ensures { result ≡ Execute.executed bytes i address first second }
+pub fn execute(
+    bytes: usize,
+    i: Instruction,
+    address: u32,
+    first: u32,
+    second: u32,
+) -> Result<Executed, Cause>
+    ensures { outcome address result ≡ Execute.executed bytes i address first second }
 {
     let given = Inputs {
         address,

@@ -104,7 +104,7 @@ impl From<Cause> for Stop {
     }
 }
 
-// What an outcome is found from: the instruction's address, its constant as a word, and the two values read.
+// What an instruction is executed with: its address, its constant as a word, and the two values read.
 #[derive(Clone, Copy, Debug, PartialEq, Eq)]
 pub struct Inputs {
     pub address: u32,
@@ -113,11 +113,9 @@ pub struct Inputs {
     pub second: u32,
 }
 
-// What an instruction comes to; with a stop the result is 0 and the next address its own, so that all three are read without
-// asking which: a Result would be no plainer, with a struct of its own and a clause that the stop of an Err has a cause.
-#[derive(Clone, Copy, Debug, PartialEq, Eq, Default)]
-pub struct Outcome {
+// What an instruction comes to that does not stop.
+#[derive(Clone, Copy, Debug, PartialEq, Eq)]
+pub struct Executed {
     pub result: u32,
     pub next: u32,
-    pub stop: Stop,
 }

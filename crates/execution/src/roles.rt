@@ -1,8 +1,9 @@
 // What the renaming core asks of an instruction.
 ghost use Rattle.std.specs.Prelude.{◌≡◌};
+ghost use Rattle.execution.specs.Execute.{stop_for};
 ghost use Rattle.execution.specs.Roles as Roles;
 
-use crate::{Action, Computation, Stop, actions};
+use crate::{Action, Cause, Computation, actions};
 use isa::Instruction;
 
 // Inner: the step and the calls use it.
@@ -24,14 +25,14 @@ pub fn is_store(i: Instruction) -> bool
     matches!(actions::action(i.operation), Action::Stores(_))
 }
 
-// the stop of ECALL and EBREAK, without a cause for all that execute. Inner: the step and the calls use it.
+// the cause with which ECALL and EBREAK stop, none for all that execute. Inner: decode uses it.
 #[tactic(auto, unfolding(crate::specs::Roles::stop_by))]
-pub fn stop_at_once(i: Instruction) -> Stop
-    ensures { result ≡ Roles.stop_at_once i }
+pub fn stop_at_once(i: Instruction) -> Option<Cause>
+    ensures { stop_for result ≡ Roles.stop_at_once i }
 {
     match actions::action(i.operation) {
-        Action::Stops(cause) => cause.into(),
-        _ => Stop::NONE,
+        Action::Stops(cause) => Some(cause),
+        _ => None,
     }
 }
 

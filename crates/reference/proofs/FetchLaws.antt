@@ -13,14 +13,15 @@ use Rattle.isa.proofs.Accepted.{Accepted}
 use Rattle.isa.proofs.Ranges.{read_accepted}
 use Rattle.isa.proofs.ReadLaws.{Small, legal_small}
 use Rattle.reference.specs.Fetch.{FetchNumbers, no_instruction, fetch_numbers, of_reading, has_word, word_at, outside, fetch_at}
-use Rattle.execution.specs.declared.Stop.{Stop}
+use Rattle.execution.specs.declared.Cause.{Cause}
+use Rattle.execution.proofs.CauseLaws.{cause_injective}
 
 -- document 01's numbers settle the answer
-pub fetch_injective : (a b : Result Instruction Stop) → fetch_numbers a ≡ fetch_numbers b → a ≡ b
+pub fetch_injective : (a b : Result Instruction Cause) → fetch_numbers a ≡ fetch_numbers b → a ≡ b
 fetch_injective (Ok i) (Ok j) e = ap (λ (n : FetchNumbers). Ok n.fields) e
 fetch_injective (Ok i) (Err t) e = impossible (sym (ap (λ (n : FetchNumbers). n.found) e))
 fetch_injective (Err s) (Ok j) e = impossible (ap (λ (n : FetchNumbers). n.found) e)
-fetch_injective (Err s) (Err t) e = ap (λ (n : FetchNumbers). Err n.stop) e
+fetch_injective (Err s) (Err t) e = ap Err (cause_injective s t (ap (λ (n : FetchNumbers). n.stop.cause) e))
 
 module _ (program : List ℕ) (address : ℕ) where
   pub fetch_outside : has_word program address ≡ false → no_instruction outside ≡ fetch_at program address
@@ -77,9 +78,3 @@ missing_at false w e = record { fields = refl; cause = refl }
 pub fetched_missing : (program : List ℕ) (address : ℕ) → (fetch_at program address).found ≡ false → Missing (fetch_at program address)
 unfolding fetch_at
 fetched_missing program address e = missing_at (has_word program address) (word_at program address) e
-
--- a fetch that stops has a cause
-pub stopped_some : (program : List ℕ) (address : ℕ) (why : Stop) → no_instruction why ≡ fetch_at program address → why.cause ≡ 0 → ⊥
-stopped_some program address why e z =
-    let m : Missing (no_instruction why) = subst Missing (sym e) (fetched_missing program address (sym (ap (λ (n : FetchNumbers). n.found) e))) in
-    impossible (sym (ap (λ (c : ℕ). eqb c 1 || eqb c 4) z) ∙ m.cause)

@@ -7,11 +7,10 @@ use lib.ListN.{length, get_or}
 use Rattle.isa.specs.declared.Instruction.{Instruction}
 use Rattle.execution.specs.Actions.{action_of}
 use Rattle.execution.specs.Memory.{effective, stored}
-use Rattle.execution.specs.Execute.{stop, executed}
+use Rattle.execution.specs.Execute.{stop, executed, Outcome}
 use Rattle.reference.specs.Fetch.{fetch_at}
 use Rattle.reference.specs.Step.{State, Step, reached, destination, write_register, stopped_at, settled, first_of, second_of, step_with, step_of}
 use Rattle.reference.specs.Statement.{Statement}
-use Rattle.execution.specs.declared.Outcome.{Outcome}
 use Rattle.reference.proofs.FetchLaws.{fetched_small}
 use Rattle.execution.proofs.MemoryLaws as Memory
 use Rattle.execution.proofs.OutcomeLaws.{executed_proper}

@@ -16,11 +16,11 @@ use Rattle.word.specs.Signed.{word_of}
 use Rattle.execution.specs.declared.Action.{Action}
 use Rattle.execution.specs.Actions.{action_of}
 use Rattle.execution.specs.Memory.{second_by, stored_by, stored}
-use Rattle.execution.specs.Execute.{stop, executed_by, executed}
+use Rattle.execution.specs.Execute.{stop, executed_by, executed, Outcome}
 use Rattle.reference.specs.Fetch.{FetchNumbers, fetch_numbers, fetch_at}
 use Rattle.reference.specs.Step.{State, Step, reached, first_source, second_source, destination, read_register, write_register, stopped_at, settled, first_of, second_of, step_with, step_fetched, step_of, length_refusal, step_answer, stepped_of}
-use Rattle.execution.specs.declared.Stop.{Stop}
-use Rattle.execution.specs.declared.Outcome.{Outcome}
+use Rattle.execution.specs.Causes.{cause_number}
+use Rattle.execution.specs.declared.Cause.{Cause}
 use Rattle.std.specs.Prelude.{Ok, Err}
 use Rattle.refusals.specs.Numbers.{number}
 use Rattle.refusals.proofs.Laws.{number_some}
@@ -64,9 +64,9 @@ module _ (program : List ℕ) (s : State) where
   unfolding step_of
   step_found i e = sym (ap (λ (f : FetchNumbers). step_fetched f s) e)
 
-  pub step_stopped : (why : Stop) → fetch_numbers (Err why) ≡ fetch_at program s.address → step_of program s ≡ stopped_at s why
+  pub step_stopped : (cause : Cause) → fetch_numbers (Err cause) ≡ fetch_at program s.address → step_of program s ≡ stopped_at s (stop (cause_number cause))
   unfolding step_of
-  step_stopped why e = sym (ap (λ (f : FetchNumbers). step_fetched f s) e)
+  step_stopped cause e = sym (ap (λ (f : FetchNumbers). step_fetched f s) e)
 
   -- the exported step, by the refusal
   pub step_refused : (refusal : Refusal) → number refusal ≡ length_refusal program s.memory → stepped_of program s ≡ step_answer (stopped_at s (stop 0)) (number refusal)

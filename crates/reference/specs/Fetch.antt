@@ -4,7 +4,9 @@ use Rattle.word.specs.Bytes.{number, byte_of}
 use Rattle.isa.specs.Reads.{choose, none, Numbers, read_of}
 use Rattle.isa.specs.declared.Instruction.{Instruction}
 use Rattle.execution.specs.Memory.{accessible}
+use Rattle.execution.specs.Causes.{cause_number}
 use Rattle.execution.specs.Execute.{stop}
+use Rattle.execution.specs.declared.Cause.{Cause}
 use Rattle.execution.specs.declared.Stop.{Stop}
 
 -- a fetch in document 01's numbers: whether there is an instruction, the stop (cause 0 where there is one), the instruction
@@ -16,9 +18,9 @@ pub record FetchNumbers : Type 0 where
 abbrev pub no_instruction : Stop → FetchNumbers
 no_instruction why = record { found = false; stop = why; fields = none }
 
-abbrev pub fetch_numbers : Result Instruction Stop → FetchNumbers
+abbrev pub fetch_numbers : Result Instruction Cause → FetchNumbers
 fetch_numbers (Ok i) = record { found = true; stop = stop 0; fields = i }
-fetch_numbers (Err why) = no_instruction why
+fetch_numbers (Err cause) = no_instruction (stop (cause_number cause))
 
 -- "1 illegal" is the reading's own cause
 abbrev pub of_reading : Numbers → FetchNumbers

@@ -5,10 +5,11 @@ use Rattle.refusals.specs.declared.Refusal.{Refusal}
 use Rattle.isa.specs.Reads.{choose}
 use Rattle.isa.specs.declared.Instruction.{Instruction}
 use Rattle.execution.specs.Memory.{second_value, stored}
-use Rattle.execution.specs.Execute.{stop, executed}
+use Rattle.execution.specs.Execute.{stop, executed, Outcome}
 use Rattle.reference.specs.Fetch.{FetchNumbers, fetch_at}
+use Rattle.execution.specs.Causes.{cause_number}
+use Rattle.execution.specs.declared.Cause.{Cause}
 use Rattle.execution.specs.declared.Stop.{Stop}
-use Rattle.execution.specs.declared.Outcome.{Outcome}
 use Rattle.reference.specs.declared.Stepped.{Stepped}
 
 pub record State : Type 0 where
@@ -48,10 +49,10 @@ reached registers address memory why = record { state = state registers address 
 abbrev pub stopped_at : State → Stop → Step
 stopped_at s why = record { state = s; stop = why }
 
--- a step on lent registers and data, by the next address or the stop handed back and the state that it leaves
-abbrev pub advanced : Result ℕ Stop → State → Step
+-- a step on lent registers and data, by the next address or the cause handed back and the state that it leaves
+abbrev pub advanced : Result ℕ Cause → State → Step
 advanced (Ok next) s = reached s.registers next s.memory (stop 0)
-advanced (Err why) s = stopped_at s why
+advanced (Err cause) s = stopped_at s (stop (cause_number cause))
 
 -- "A stopped instruction changes nothing."
 abbrev pub settled : State → Instruction → List ℕ → Outcome → Step

@@ -1,8 +1,7 @@
 ghost use Rattle.std.specs.Prelude.{◌≡◌, true};
-ghost use Rattle.isa.specs.Reads.{illegal};
-ghost use Rattle.reference.specs.Fetch.{fetch_numbers, of_reading, has_word, word_at, outside, fetch_at};
+ghost use Rattle.reference.specs.Fetch.{fetch_numbers, has_word, word_at, fetch_at};
 
-use execution::{Cause, Stop, memory};
+use execution::{Cause, memory};
 use isa::Instruction;
 
 // Inner, for fetch and for decode: whether the program has a word at this address.
@@ -21,28 +20,14 @@ pub fn word_at(program: &[u8], address: u32) -> u32
     word::load(program, address as usize, 4)
 }
 
-// Inner, for fetch and for decode: the stop of an address that has no word.
-pub fn outside() -> Stop
-    ensures { result ≡ outside }
-{
-    Cause::Fetch.into()
-}
-
-// Inner, for fetch and for decode: the stop of a word that is illegal.
-pub fn illegal() -> Stop
-    ensures { result ≡ (of_reading illegal).stop }
-{
-    Cause::Illegal.into()
-}
-
-// The instruction at an address, or a stop: 4 outside the program or not a multiple of 4, 1 illegal.
+// The instruction at an address, or the cause of a stop: 4 outside the program or not a multiple of 4, 1 illegal.
 // Inner: step and run use it.
 #[tactic(auto, unfolding(crate::specs::Fetch::fetch_at))]
-pub fn fetch(program: &[u8], address: u32) -> Result<Instruction, Stop>
+pub fn fetch(program: &[u8], address: u32) -> Result<Instruction, Cause>
     ensures { fetch_numbers result ≡ fetch_at program.now address }
 {
     if !has_word(program, address) {
-        return Err(outside());
+        return Err(Cause::Fetch);
     }
-    isa::read(word_at(program, address)).ok_or(illegal())
+    isa::read(word_at(program, address)).ok_or(Cause::Illegal)
 }

@@ -1,25 +1,23 @@
-ghost use Rattle.std.specs.Prelude.{◌≡◌, ◌<◌};
+ghost use Rattle.std.specs.Prelude.{◌≡◌};
 ghost use Rattle.reference.specs.Step.{read_register, write_register};
 
 // x0 reads 0. Inner: step and run use it.
 #[tactic(auto, unfolding(crate::specs::Step::read_register))]
 pub fn read(registers: &[u32; 32], r: u8) -> u32
-    requires { r < 32 }
     ensures { result ≡ read_register registers.now r }
 {
     if r == 0 {
         return 0;
     }
-    registers[r as usize]
+    registers.get(r as usize).copied().unwrap_or(0)
 }
 
 // writing x0 does nothing. Inner: step and run use it.
 #[tactic(auto, unfolding(crate::specs::Step::write_register))]
 pub fn write(registers: &mut [u32; 32], r: u8, value: u32)
-    requires { r < 32 }
     ensures { registers.new ≡ write_register registers.old r value }
 {
-    if r != 0 {
+    if (r != 0) & (r < 32) {
         registers[r as usize] = value;
     }
 }

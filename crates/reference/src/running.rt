@@ -14,12 +14,12 @@ fn proceed(program: &[u8], data: &mut [u8], registers: [u32; 32], address: u32, 
     for steps in 0..n {
         match stepping::advance(program, data, &mut values, at) {
             Ok(next) => at = next,
-            Err(stop) => {
+            Err(cause) => {
                 return Ran {
                     registers: values,
                     address: at,
                     steps,
-                    stop,
+                    stop: cause.into(),
                     refusal: None,
                 };
             }

@@ -1,21 +1,19 @@
-ghost use Rattle.std.specs.Prelude.{◌≡◌, ◌≢◌, ◌<◌, IfErr};
+ghost use Rattle.std.specs.Prelude.{◌≡◌};
 ghost use Rattle.reference.specs.Step as Step;
 
 use crate::{Stepped, lengths, operands, program, registers};
-use execution::{Inputs, Stop, actions, executing, memory};
+use execution::{Cause, Inputs, Stop, actions, executing, memory};
 use isa::Instruction;
 
-// one instruction on lent registers and data: the next address, or a stop, which leaves them.
+// one instruction on lent registers and data: the next address, or the cause of a stop, which leaves them.
 // The action is looked up once and handed on.
 fn make(
     i: Instruction,
     data: &mut [u8],
     registers: &mut [u32; 32],
     address: u32,
-) -> Result<u32, Stop>
-    requires { (i.rs1 < 32) × (i.rs2 < 32) × (i.rd < 32) }
-    ensures made { Step.step_with i (Step.state registers.old address «data».old) ≡ Step.advanced result (Step.state registers.new address «data».new) }
-    ensures stopped { IfErr result (λ why. why.cause ≢ 0) }
+) -> Result<u32, Cause>
+    ensures { Step.step_with i (Step.state registers.old address «data».old) ≡ Step.advanced result (Step.state registers.new address «data».new) }
 {
     let action = actions::action(i.operation);
     let constant = word::to_word(i.constant);
@@ -29,26 +27,21 @@ fn make(
         first,
         second,
     };
-    let outcome = executing::perform(action, data.len(), given);
-    let stop = outcome.stop;
-    if stop.cause != 0 {
-        return Err(stop);
-    }
+    let executed = executing::perform(action, data.len(), given)?;
     memory::store_by(action, data, at, second);
-    registers::write(registers, operands::destination_of(i), outcome.result);
-    Ok(outcome.next)
+    registers::write(registers, operands::destination_of(i), executed.result);
+    Ok(executed.next)
 }
 
-// One step on lent registers and data: the next address, or a stop, which has a cause and leaves them.
+// One step on lent registers and data: the next address, or the cause of a stop, which leaves them.
 // Inner: step and run use it.
 pub fn advance(
     program: &[u8],
     data: &mut [u8],
     registers: &mut [u32; 32],
     address: u32,
-) -> Result<u32, Stop>
-    ensures made { Step.step_of program.now (Step.state registers.old address «data».old) ≡ Step.advanced result (Step.state registers.new address «data».new) }
-    ensures stopped { IfErr result (λ why. why.cause ≢ 0) }
+) -> Result<u32, Cause>
+    ensures { Step.step_of program.now (Step.state registers.old address «data».old) ≡ Step.advanced result (Step.state registers.new address «data».new) }
 {
     let i = program::fetch(program, address)?;
     make(i, data, registers, address)
@@ -74,10 +67,10 @@ pub fn step(program: &[u8], data: &mut [u8], registers: [u32; 32], address: u32)
             stop: Stop::NONE,
             refusal: None,
         },
-        Err(stop) => Stepped {
+        Err(cause) => Stepped {
             registers: values,
             address,
-            stop,
+            stop: cause.into(),
             refusal: None,
         },
     }

@@ -9,9 +9,8 @@ use lib.IntN.{ℤ, pos, negsuc}
 use Rattle.laws.proofs.Bools.{impossible, and_left, and_right}
 use Rattle.isa.specs.Reads.{Numbers, instruction}
 use Rattle.isa.specs.declared.Instruction.{Instruction}
-use Rattle.execution.specs.Execute.{stop}
+use Rattle.execution.specs.Execute.{stop, Outcome}
 use Rattle.reference.specs.Step.{State, Step, state}
-use Rattle.execution.specs.declared.Outcome.{Outcome}
 use Rattle.worked.specs.Same.{same_integer, same_list, same_instruction, same_reading, same_outcome, same_state, same_step}
 
 -- both of two tests hold

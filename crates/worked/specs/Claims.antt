@@ -3,9 +3,8 @@ use Rattle.std.specs.Prelude.{ℕ, ◌≡◌, Bool, not, ◌&&◌, List, [], ◌
 use Rattle.isa.specs.Reads.{Numbers, read_of}
 use Rattle.isa.specs.declared.Instruction.{Instruction}
 use Rattle.execution.specs.declared.Alu.{Alu}
-use Rattle.execution.specs.Execute.{compute, executed}
+use Rattle.execution.specs.Execute.{compute, executed, Outcome}
 use Rattle.reference.specs.Step.{State, Step, state, step_with}
-use Rattle.execution.specs.declared.Outcome.{Outcome}
 use Rattle.window.specs.Calls.{World}
 use Rattle.window.specs.declared.Call.{Call}
 use Rattle.worked.specs.Same.{same_list, same_reading, same_outcome, same_step}

@@ -1,9 +1,9 @@
 -- Tests for equality, made of tests on numbers.
 use Rattle.std.specs.Prelude.{ℕ, Bool, true, false, ◌&&◌, List, [], ◌∷◌, eqb, ℤ, pos, negsuc}
 use Rattle.isa.specs.Reads.{Numbers}
+use Rattle.execution.specs.Execute.{Outcome}
 use Rattle.isa.specs.declared.Instruction.{Instruction}
 use Rattle.reference.specs.Step.{State, Step}
-use Rattle.execution.specs.declared.Outcome.{Outcome}
 
 abbrev pub same_integer : ℤ → ℤ → Bool
 same_integer (pos a) (pos b) = eqb a b

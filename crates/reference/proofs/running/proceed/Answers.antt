@@ -4,6 +4,7 @@ use native.Mathlib.Nat.{sub-zero}
 use native.Mathlib.Omega.{arith}
 use Rattle.reference.specs.Step.{state}
 use Rattle.reference.specs.Run.{Run, run_of, run_answer}
+use Rattle.execution.proofs.CauseLaws.{cause_some}
 use Rattle.reference.proofs.RunLaws.{after_zero, goes_on, stops_there, is_over}
 use Rattle.reference.proofs.running.proceed.Goals as goal
 
@@ -16,13 +17,14 @@ loop-steps-init c =
 pub returns-in-Err : goal.returns-in-Err
 returns-in-Err c =
     let l = c.loop-steps in
-    ap (λ (x : Run). run_answer x 0)
-    (sym l.invariant ∙ stops_there c.args.n l.steps c.args.program.now (state l.values l.at l.«data») c.loop-steps-test.true _ (rw c.in-Err.is at c.advance.ensures.made) c.in-Err.ensures.stopped)
+    rw c.into.ensures
+    (ap (λ (x : Run). run_answer x 0)
+    (sym l.invariant ∙ stops_there c.args.n l.steps c.args.program.now (state l.values l.at l.«data») c.loop-steps-test.true _ (rw c.in-Err.is at c.advance.ensures) (cause_some c.in-Err.cause)))
 
 pub loop-steps-preserved : goal.loop-steps-preserved
 loop-steps-preserved c =
     let l = c.loop-steps in
-    goes_on c.args.n l.steps c.args.program.now (state l.values l.at l.«data») c.loop-steps-test.true _ (rw c.in-Ok.is at c.advance.ensures.made) refl ∙ l.invariant
+    goes_on c.args.n l.steps c.args.program.now (state l.values l.at l.«data») c.loop-steps-test.true _ (rw c.in-Ok.is at c.advance.ensures) refl ∙ l.invariant
 
 pub returns : goal.returns
 returns c =

@@ -2,30 +2,21 @@ use mathlib.Core.Path.{◌≡◌, ◌∙◌}
 use borrow.Author.Rules.{rules}
 use Rattle.std.proofs.Common.{Err}
 use Rattle.reference.specs.Step.{state}
-use Rattle.reference.proofs.FetchLaws.{found_small, stopped_some}
 use Rattle.reference.proofs.StepLaws.{step_found, step_stopped}
 use Rattle.reference.proofs.stepping.advance.Goals.{After-from_residual}
 use Rattle.reference.proofs.stepping.advance.Goals as goal
 
--- `?` hands the stop on as it is
+-- `?` hands the cause on as it is
 passed_on : (p : After-from_residual) → p.from_residual.result ≡ Err p.in_err-i.field-0.0
 passed_on p = search rules
 
-pub returns-in_err-i-clause-made : goal.returns-in_err-i-clause-made
-returns-in_err-i-clause-made c =
+pub returns-in_err-i : goal.returns-in_err-i
+returns-in_err-i c =
     let a = c.args in
     let s = state a.registers.now a.address a.«data».now in
     rw (passed_on c) (step_stopped a.program.now s c.in_err-i.field-0.0 c.in_err-i.ensures)
 
-pub returns-in_err-i-clause-stopped : goal.returns-in_err-i-clause-stopped
-returns-in_err-i-clause-stopped c = rw (passed_on c) (stopped_some c.args.program.now c.args.address c.in_err-i.field-0.0 c.in_err-i.ensures)
-
-pub make-requires : goal.make-requires
-make-requires c =
-    let s = found_small c.args.program.now c.args.address c.in_ok-i.i c.in_ok-i.ensures in
-    (s.rs1, s.rs2, s.rd)
-
-pub returns-clause-made : goal.returns-clause-made
-returns-clause-made c =
+pub returns : goal.returns
+returns c =
     let a = c.args in
-    step_found a.program.now (state a.registers.now a.address a.«data».now) c.in_ok-i.i c.in_ok-i.ensures ∙ c.make.ensures.made
+    step_found a.program.now (state a.registers.now a.address a.«data».now) c.in_ok-i.i c.in_ok-i.ensures ∙ c.make.ensures

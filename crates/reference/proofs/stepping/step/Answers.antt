@@ -13,10 +13,11 @@ pub returns-in-Ok : goal.returns-in-Ok
 returns-in-Ok c =
     let a = c.args in
     step_accepted a.program.now (state a.registers a.address a.«data».now) (sym (ap number_of c.in_default.is) ∙ c.check_lent.ensures)
-    ∙ ap (λ (x : Step). step_answer x 0) (rw c.in-Ok.is at c.advance.ensures.made)
+    ∙ ap (λ (x : Step). step_answer x 0) (rw c.in-Ok.is at c.advance.ensures)
 
 pub returns-in-Err-advance : goal.returns-in-Err-advance
 returns-in-Err-advance c =
     let a = c.args in
-    step_accepted a.program.now (state a.registers a.address a.«data».now) (sym (ap number_of c.in_default.is) ∙ c.check_lent.ensures)
-    ∙ ap (λ (x : Step). step_answer x 0) (rw c.in-Err-advance.is at c.advance.ensures.made)
+    rw c.into.ensures
+    (step_accepted a.program.now (state a.registers a.address a.«data».now) (sym (ap number_of c.in_default.is) ∙ c.check_lent.ensures)
+    ∙ ap (λ (x : Step). step_answer x 0) (rw c.in-Err-advance.is at c.advance.ensures))
