@@ -5,7 +5,9 @@ use mathlib.Core.Bool.{Bool, true, false, ◌&&◌}
 use mathlib.Core.List.{List}
 use native.Mathlib.Numerals.{add-one}
 use native.Mathlib.Omega.{arith}
-use lib.ListN.{get_or, take, drop}
+use lib.ListN.{length, get_or, take, drop}
+use lib.Seq.{drop-cons}
+use Rattle.std.specs.List.{list_all}
 use Rattle.std.proofs.Common.{add_comm}
 use Rattle.std.proofs.lemmas.List.{get_or-take}
 use Rattle.std.proofs.lemmas.Grind.{get_or_after_one}
@@ -38,6 +40,15 @@ every_next test default size count k good table h l =
     let item : get_or (take size (drop 1 table)) k default ≡ get_or table (k + 1) default =
     get_or-take size (drop 1 table) k default h ∙ get_or_after_one table k default ∙ ap (λ (n : ℕ). get_or table n default) (add_comm 1 k) in
     ap (λ (x : _). (good && test x) && every_from test default (k + 1 + 1) (count - (k + 1)) table) item ∙ every_turn test default count k (k + 1) good table l
+
+-- a sweep over the elements of a part
+pub every_of : {A : Type 0} (test : A → Bool) (default : A) (count from : ℕ) (table : List A) → from + count ≤ length table
+    → list_all test (take count (drop from table)) ≡ every_from test default from count table
+unfolding every_from
+every_of test default zero from table h = refl
+every_of test default (suc count) from table h =
+    ap (λ (rest : List _). list_all test (take (suc count) rest)) (drop-cons table from default (omega arith))
+    ∙ ap (λ (b : Bool). test (get_or table from default) && b) (every_of test default count (suc from) table (omega arith))
 
 -- a test that passes at each index
 pub every_holds : {A : Type 0} (test : A → Bool) (default : A) (count from : ℕ) (table : List A) → ((i : ℕ) → from ≤ i → i < from + count → test (get_or table i default) ≡ true)

@@ -52,7 +52,7 @@ pub fn entry_in_range(s: Setup, e: &Entry) -> bool
     requires { s.window ≤ most_entries }
     ensures { result ≡ Entries.entry_in_range s e.now }
 {
-    let names = LAST_LOGICAL + s.window;
+    let names = s.last_name();
     instruction_in_range(e)
         & (e.destination <= LAST_LOGICAL)
         & (e.name <= names)

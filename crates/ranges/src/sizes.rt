@@ -1,7 +1,7 @@
 // The sizes of a machine: W, N and the lengths of program and data.
-ghost use Rattle.std.specs.Prelude.{◌≡◌, IfOk};
-ghost use Rattle.refusals.specs.Numbers.{number_of};
-ghost use Rattle.ranges.specs.Sizes.{setup_of, window_fits, registers_fit, set_up_refusal, setup_in_range};
+ghost use Rattle.std.specs.Prelude.{◌≡◌, ◌≤◌};
+ghost use Rattle.ranges.specs.Sizes.{most_entries, names_of, window_fits, registers_fit, setup_in_range};
+ghost use Rattle.ranges.specs.Asked.{SetupIs};
 
 use crate::{Dimensions, Setup};
 use reference::lengths;
@@ -28,35 +28,46 @@ fn registers_fit(registers: u32) -> bool
     (32 <= registers) & (registers <= MOST_REGISTERS as u32)
 }
 
-impl Dimensions {
-    // Refusals 1 to 4, or the sizes as a machine holds them. Inner: set-up uses it.
+// Refusals 1 to 4, or the sizes as a machine holds them. Inner: set-up uses it.
+impl TryFrom<Dimensions> for Setup {
+    type Error = Refusal;
+
+    ghost try_from_gives = { SetupIs };
+
     #[tactic(auto, unfolding(crate::specs::Sizes::set_up_refusal, reference::specs::Step::lengths_refusal, reference::specs::Step::first))]
-    pub fn check(self) -> Result<Setup, Refusal>
-        ensures number { number_of result ≡ set_up_refusal (setup_of self.window self.registers self.program self.bytes) }
-        ensures kept { IfOk result (λ setup. setup ≡ setup_of self.window self.registers self.program self.bytes) }
-    {
-        if !window_fits(self.window) {
+    fn try_from(asked: Dimensions) -> Result<Setup, Refusal> {
+        if !window_fits(asked.window) {
             return Err(Refusal::WindowSize);
         }
-        if !registers_fit(self.registers) {
+        if !registers_fit(asked.registers) {
             return Err(Refusal::RegisterCount);
         }
-        lengths::check(self.program, self.bytes)?;
+        lengths::check(asked.program, asked.bytes)?;
         Ok(Setup {
-            window: self.window as u8,
-            registers: self.registers as u8,
-            program: self.program as u16,
-            bytes: self.bytes as u16,
+            window: asked.window as u8,
+            registers: asked.registers as u8,
+            program: asked.program as u16,
+            bytes: asked.bytes as u16,
         })
     }
 }
 
-// Inner: refusal 5 uses it.
-pub fn setup_in_range(s: Setup) -> bool
-    ensures { result ≡ setup_in_range s }
-{
-    window_fits(s.window as u32)
-        & registers_fit(s.registers as u32)
-        & lengths::program_fits(s.program as usize)
-        & lengths::data_fits(s.bytes as usize)
+impl Setup {
+    // Inner: refusal 5 uses it.
+    pub fn is_in_range(self) -> bool
+        ensures { result ≡ setup_in_range self }
+    {
+        window_fits(self.window as u32)
+            & registers_fit(self.registers as u32)
+            & lengths::program_fits(self.program as usize)
+            & lengths::data_fits(self.bytes as usize)
+    }
+
+    // The last name, 31 + W. Inner: refusal 5 and set-up use it.
+    pub fn last_name(self) -> u8
+        requires { self.window ≤ most_entries }
+        ensures { result ≡ names_of self.window }
+    {
+        LAST_LOGICAL + self.window
+    }
 }

@@ -1,5 +1,7 @@
 -- Laws of the machine.
 pub mod TabulateLaws
+pub mod DefaultLaws
+pub mod FunctionLaws
 pub mod SetUpLaws
 pub mod FreshLaws
 pub mod RangeLaws

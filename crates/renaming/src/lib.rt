@@ -19,7 +19,7 @@ use tables::{Entry, FreeList, GeneralMap, PLACES};
 // of range, so none of them is kept from a machine by an invariant. What needs few entries says so, and what needs one, or one
 // at a position, too: a type for that would have to lend the core, which each of these functions changes. There is no heap:
 // the entries are an array with a count.
-#[derive(Clone, Copy, Debug, PartialEq, Eq)]
+#[derive(Clone, Copy, Debug, PartialEq, Eq, Default)]
 pub struct Core {
     pub setup: Setup,
     pub count: u8,

@@ -1,10 +1,10 @@
 // Refusal 5: whether every number of a machine is in range.
 ghost use Rattle.std.specs.Prelude.{◌≡◌, ◌≤◌};
 ghost use Rattle.renaming.specs.Range as Range;
-ghost use Rattle.ranges.specs.Sizes.{most_entries};
+ghost use Rattle.ranges.specs.Sizes.{most_entries, most_registers};
 
 use crate::Core;
-use ranges::{entries, sizes, table};
+use ranges::{entries, table};
 
 impl Core {
     fn entries_in_range(&self) -> bool
@@ -12,31 +12,41 @@ impl Core {
         requires window { self.now.setup.window ≤ most_entries }
         ensures { result ≡ Range.entries_in_range self.now.setup self.now.count self.now.entries }
     {
-        let mut good = true;
-        for k in 0..self.count as usize {
-            good &= entries::entry_in_range(self.setup, &self.entries[k]);
-        }
-        good
+        let setup = self.setup;
+        self.entries[..self.count as usize]
+            .iter()
+            .all(|e| entries::entry_in_range(setup, e))
+    }
+
+    // Heads and links of the pools, the physical map, the general map, the halt's cause. Tests are joined without early exit, as in
+    // `ranges`.
+    #[tactic(auto, unfolding(ranges::specs::Tables::tables_within))]
+    fn tables_in_range(&self) -> bool
+        requires window { self.now.setup.window ≤ most_entries }
+        requires registers { self.now.setup.registers ≤ most_registers }
+        ensures { result ≡ Range.tables_in_range self.now }
+    {
+        let registers = self.setup.registers;
+        let names = self.setup.last_name();
+        (self.free_registers.head <= registers)
+            & table::within(registers, registers, &self.free_registers.link)
+            & (self.free_names.head <= names)
+            & table::within(names, names, &self.free_names.link)
+            & table::within(registers, names, &self.physical)
+            & table::mappings_within(names, registers, &self.map)
+            & self.halt.is_in_range()
     }
 
     // Whether refusal 5 does not apply. Inner: the calls and the report use it.
     pub fn in_range(&self) -> bool
         ensures { result ≡ Range.machine_in_range self.now }
     {
-        let s = self.setup;
-        if !sizes::setup_in_range(s) {
+        if !self.setup.is_in_range() {
             return false;
         }
-        if s.window < self.count {
+        if self.setup.window < self.count {
             return false;
         }
-        table::tables_in_range(
-            s,
-            &self.free_registers,
-            &self.free_names,
-            &self.physical,
-            &self.map,
-            self.halt,
-        ) & self.entries_in_range()
+        self.tables_in_range() & self.entries_in_range()
     }
 }

@@ -1,14 +1,13 @@
-ghost use Rattle.std.specs.Prelude.{◌≡◌, ◌≤◌, map};
+ghost use Rattle.std.specs.Prelude.{◌≡◌, ◌≤◌, ◌++◌, map, replicate};
 ghost use Rattle.renaming.specs.Core as Machines;
 ghost use Rattle.renaming.specs.SetUp.{own_numbers, own_mapping, rising_next, rising_pool, fresh_machine, set_up_of, set_up_answer};
 ghost use Rattle.ranges.specs.Sizes.{setup_of, most_entries};
 
 use crate::Core;
-use execution::Stop;
-use ranges::sizes::{LAST_LOGICAL, MOST_ENTRIES};
 use ranges::{Dimensions, Setup};
 use refusals::Refusal;
-use tables::{Entry, FreeList, GeneralMap, Mapping, PLACES};
+use std::array;
+use tables::{FreeList, GeneralMap, Mapping, PLACES};
 
 // the number after k in a pool of 32 to last
 fn successor(k: usize, last: u8) -> u8
@@ -21,15 +20,11 @@ fn successor(k: usize, last: u8) -> u8
     }
 }
 
-// a pool of 32 to last, in rising order. Tried by array::from_fn, and the proof did not close: of a call at one index std does
-// not say that the closure still has the `last` that it captured.
+// a pool of 32 to last, in rising order
 fn rising(last: u8) -> FreeList
     ensures { result ≡ rising_pool last }
 {
-    let mut link = [0u8; PLACES];
-    for k in 0..PLACES {
-        link[k] = successor(k, last);
-    }
+    let link = array::from_fn(|k| successor(k, last));
     FreeList { head: 32, link }
 }
 
@@ -39,12 +34,14 @@ const OWN: [u8; 32] = [
     26, 27, 28, 29, 30, 31,
 ];
 
-const PHYSICAL: [u8; PLACES] = [
-    0, 1, 2, 3, 4, 5, 6, 7, 8, 9, 10, 11, 12, 13, 14, 15, 16, 17, 18, 19, 20, 21, 22, 23, 24, 25,
-    26, 27, 28, 29, 30, 31, 0, 0, 0, 0, 0, 0, 0, 0, 0, 0, 0, 0, 0, 0, 0, 0, 0, 0, 0, 0, 0, 0, 0, 0,
-    0, 0, 0, 0, 0, 0, 0, 0, 0, 0, 0, 0, 0, 0, 0, 0, 0, 0, 0, 0, 0, 0, 0, 0, 0, 0, 0, 0, 0, 0, 0, 0,
-    0, 0, 0, 0, 0, 0, 0, 0,
-];
+// name r has register r, and the names after them none
+fn own_registers() -> [u8; PLACES]
+    ensures { result ≡ own_numbers ++ replicate most_entries 0 }
+{
+    let mut table = [0; PLACES];
+    table[..32].copy_from_slice(&OWN);
+    table
+}
 
 // logical r has name r and register r, x0 none
 fn own_mappings() -> [Mapping; 32]
@@ -66,37 +63,19 @@ fn fresh(setup: Setup) -> Core
         map: GeneralMap {
             mappings: own_mappings(),
         },
-        physical: PHYSICAL,
+        physical: own_registers(),
         free_registers: rising(setup.registers),
-        free_names: rising(LAST_LOGICAL + setup.window),
+        free_names: rising(setup.last_name()),
         ..Core::zeros()
     }
 }
 
 impl Core {
-    // The machine of a refused set-up, all zeros: arrays as long as these have no Default. Inner: `window` uses it.
+    // The machine of a refused set-up, all zeros. Inner: `window` uses it.
     pub fn zeros() -> Core
         ensures { result ≡ Machines.zero_machine }
     {
-        let empty = FreeList {
-            head: 0,
-            link: [0; PLACES],
-        };
-        Core {
-            setup: Setup::default(),
-            count: 0,
-            entries: [Entry::default(); MOST_ENTRIES],
-            map: GeneralMap {
-                mappings: [Mapping::default(); 32],
-            },
-            physical: [0; PLACES],
-            values: [0; PLACES],
-            free_registers: empty,
-            free_names: empty,
-            fetch: 0,
-            next: 0,
-            halt: Stop::NONE,
-        }
+        Core::default()
     }
 
     // A fresh machine for a window of 1 to 64 entries, 32 to 95 physical registers and these lengths of program and
@@ -104,6 +83,6 @@ impl Core {
     pub fn set_up(asked: Dimensions) -> Result<Core, Refusal>
         ensures { set_up_answer result ≡ set_up_of (setup_of asked.window asked.registers asked.program asked.bytes) }
     {
-        Ok(fresh(asked.check()?))
+        Ok(fresh(Setup::try_from(asked)?))
     }
 }

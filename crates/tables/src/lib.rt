@@ -16,7 +16,7 @@ pub const PLACES: usize = 96;
 
 // A pool of numbers as a chain: a head, and for each free number the next. It serves registers and names.
 // Document 01 has the chain, and the machine has no heap.
-#[derive(Clone, Copy, Debug, PartialEq, Eq)]
+#[derive(Clone, Copy, Debug, PartialEq, Eq, Default)]
 pub struct FreeList {
     pub head: u8,
     pub link: [u8; PLACES],
@@ -31,7 +31,7 @@ pub struct Mapping {
 }
 
 // For each logical register a name, a register and a valid bit.
-#[derive(Clone, Copy, Debug, PartialEq, Eq)]
+#[derive(Clone, Copy, Debug, PartialEq, Eq, Default)]
 pub struct GeneralMap {
     pub mappings: [Mapping; 32],
 }
