@@ -18,7 +18,7 @@ use tables::{Entry, Mapping};
 fn check(core: &Core) -> Result<(), Refusal>
     ensures { number_of result ≡ Decode.decode_refusal core.now }
 {
-    if core.halt.cause != 0 {
+    if core.is_halted() {
         return Err(Refusal::Halted);
     }
     if core.setup.window <= core.count {

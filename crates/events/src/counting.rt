@@ -21,7 +21,7 @@ impl Counts {
         match call {
             Call::Decode(_) | Call::Issue(_) => {}
             Call::Complete(_) => self.dropped += u32::from(entries.saturating_sub(after.count)),
-            Call::Commit if after.halt.cause != 0 => self.dropped += u32::from(others),
+            Call::Commit if after.is_halted() => self.dropped += u32::from(others),
             Call::Commit => self.committed += 1,
         }
     }

@@ -4,6 +4,7 @@
 
 pub mod changing;
 pub mod dropping;
+pub mod halting;
 pub mod lending;
 pub mod placing;
 pub mod range;

@@ -5,7 +5,6 @@ ghost use Rattle.ranges.specs.Sizes.{most_entries};
 ghost use Rattle.renaming.specs.Call as Call;
 
 use crate::Core;
-use execution::Stop;
 use refusals::Refusal;
 use tables::State;
 
@@ -17,7 +16,7 @@ impl Core {
         ensures number { number_of result ≡ Call.entry_refusal wanted position self.now }
         ensures inside { OnOk result (position < self.now.count) }
     {
-        if self.halt != Stop::NONE {
+        if self.is_halted() {
             return Err(Refusal::Halted);
         }
         if self.count as usize <= position {

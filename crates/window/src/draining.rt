@@ -14,7 +14,7 @@ use tables::State;
 fn is_idle(core: &Core) -> bool
     ensures { result ≡ Drain.idle core.now }
 {
-    (core.count == 0) | (core.halt.cause != 0)
+    (core.count == 0) | core.is_halted()
 }
 
 // the call that position 0 needs next
