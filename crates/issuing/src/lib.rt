@@ -46,12 +46,11 @@ fn issue(core: &mut Core, data: &[u8], position: usize)
     requires there { position < core.old.count }
     ensures { core.new ≡ Issue.issued «data».now position core.old }
 {
-    let mut e = core.entries[position];
+    let e = &core.entries[position];
     let first = e.left.value_in(&core.values);
     let operand = e.right.value_in(&core.values);
     let second = execution::second_value(e.instruction, data, first, operand);
-    e.issue(first, second);
-    core.entries[position] = e;
+    core.entries[position].issue(first, second);
 }
 
 // Issue, where 5 and 6 do not apply. Inner: `window` uses it.

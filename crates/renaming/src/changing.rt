@@ -52,9 +52,7 @@ impl Core {
         ensures { self.new ≡ Changes.change_all (C.becomes change.now) self.old }
     {
         for k in 0..self.count as usize {
-            let mut e = self.entries[k];
-            change.apply(&mut e);
-            self.entries[k] = e;
+            change.apply(&mut self.entries[k]);
         }
     }
 }
