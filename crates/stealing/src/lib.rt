@@ -10,7 +10,8 @@ use renaming::changing::Sleep;
 use tables::{Mapping, table};
 
 // The youngest entry that holds a register, if it is younger than the caller; else the caller's position. Inner: complete
-// uses it. A number and no Option, since document 01 ("The form to use in each place") wants the caller's position there.
+// uses it. Document 01 ("The form to use in each place") wants "a loop that yields the victim's position by break, or the
+// caller's position": so no search by an iterator, and a number and no Option.
 pub fn victim(core: &Core, position: usize) -> usize
     requires inside { position < core.now.count }
     requires few { core.now.count ≤ most_entries }
