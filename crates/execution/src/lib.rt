@@ -53,7 +53,8 @@ pub enum Computation {
     Register(Alu),
 }
 
-// What an operation does: a load or a store by its size in bytes, a stop by its cause.
+// What an operation does: a load or a store by its size in bytes, which is added to addresses, so that an enum of sizes would be
+// turned back at each use; a stop by its cause.
 #[derive(Clone, Copy, Debug, PartialEq, Eq)]
 pub enum Action {
     Computes(Computation),

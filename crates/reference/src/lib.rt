@@ -1,4 +1,5 @@
-// The Reference level: instructions executed one after the other.
+// The Reference level: instructions executed one after the other. Registers and address are taken and handed back apart, as
+// document 01 has them.
 #![tactic(auto)]
 
 pub mod lengths;

@@ -1,5 +1,6 @@
 // The four calls, for any machine value and any lent bytes: 5 and 6 are met here. A function that takes the call as a
-// closure would be no shorter than `lent` with `?`, and commit lends the data to both.
+// closure would be no shorter than `lent` with `?`, and commit lends the data to both. Program and data are lent apart, as
+// document 01 has them.
 ghost use Rattle.std.specs.Prelude.{◌≡◌};
 ghost use Rattle.renaming.specs.Answer.{answer};
 ghost use Rattle.decoding.specs.Decode as Decode;

@@ -28,7 +28,7 @@ fn needed(core: &Core) -> Call
     }
 }
 
-// the calls accepted are counted from 0 on
+// the calls accepted are counted from 0 on, in a lent number, so that `?` ends the drain with the count as it stands
 fn drain(core: &mut Core, program: &[u8], data: &mut [u8], calls: &mut u8) -> Result<(), Refusal>
     requires { calls.old ≡ 0 }
     ensures { Drain.drain_of program.now (Calls.world_of core.old «data».old)

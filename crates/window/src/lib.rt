@@ -45,7 +45,8 @@ pub struct Drained {
     pub number: u8,
 }
 
-// The committed registers, element 0 being 0, with 0 or refusal 5: no Result, since a refused report has values, all 0.
+// The committed registers, element 0 being 0, with 0 or refusal 5: no Result, since document 01 has a refused report "with all
+// values 0".
 #[derive(Clone, Copy)]
 pub struct Report {
     pub registers: [u32; 32],
