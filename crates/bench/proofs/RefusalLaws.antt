@@ -1,5 +1,5 @@
 -- Replay's refusals in turn.
-use Prim.Native.Nat.{ℕ, ◌≤◌}
+use Prim.Native.Nat.{ℕ}
 use Rattle.std.proofs.Common.{Result, Ok, Err}
 use mathlib.Core.Path.{◌≡◌, refl, sym, ap, ◌∙◌}
 use mathlib.Core.Bool.{Bool, true, false, not}
@@ -18,7 +18,7 @@ use Rattle.renaming.specs.Core.{zero_machine}
 use Rattle.renaming.specs.SetUp.{fresh_machine, set_up_answer, set_up_of}
 use Rattle.renaming.specs.Answer.{Answer}
 use Rattle.renaming.specs.declared.Core.{Core}
-use Rattle.formats.specs.Schedule.{record_length, schedule_fits, malformed, head_refusal, window_in, registers_in}
+use Rattle.formats.specs.Schedule.{schedule_fits, malformed, head_refusal, window_in, registers_in}
 use Rattle.formats.specs.Chain.{schedule_refusal}
 use Rattle.renaming.proofs.RefusalLaws.{passed, both_none}
 use Rattle.formats.specs.Result.{result_length}

@@ -18,7 +18,7 @@ pub use stepping::step;
 
 // The state after one step; at a stop or a refusal it is as given. Document 01 wants it back in both cases, so that stop and
 // refusal stand beside it and no Result does; a stop has document 01's number, as in a machine.
-#[derive(Clone, Copy, Debug, PartialEq, Eq)]
+#[derive(Clone, Copy, Debug, PartialEq, Eq, Default)]
 pub struct Stepped {
     pub registers: [u32; 32],
     pub address: u32,

@@ -1,4 +1,4 @@
-use Rattle.std.proofs.Common.{ℕ, ◌≡◌, ◌∙◌, ap, sym}
+use Rattle.std.proofs.Common.{ℕ, ◌∙◌, ap, sym}
 use Rattle.refusals.specs.Numbers.{number}
 use Rattle.refusals.proofs.Laws.{number_some, handed_on}
 use Rattle.execution.specs.Execute.{Outcome}

@@ -1,11 +1,11 @@
-use mathlib.Core.Path.{◌≡◌, refl, ap, sym, ◌∙◌}
+use mathlib.Core.Path.{◌≡◌, refl, ap, ◌∙◌}
 use mir.Syntax.{w32}
 use mir.Val.{of_z}
 use mir.ValLaws.{to_z-of_z}
 use borrow.Author.Rules.{rules}
 use Rattle.std.proofs.Common.{Err}
 use Rattle.execution.specs.Causes.{cause_number}
-use Rattle.execution.specs.Execute.{goes, stops, outcome}
+use Rattle.execution.specs.Execute.{goes, stops}
 use Rattle.execution.proofs.CauseLaws.{cause_some}
 use Rattle.reference.specs.Step.{state, first_source, second_source, read_register}
 use Rattle.reference.proofs.StepLaws.{step_made, step_not_made}
