@@ -2,3 +2,4 @@
 pub mod FieldLaws
 pub mod ExtendLaws
 pub mod BytesLaws
+mod LoadLaws
