@@ -3,7 +3,8 @@ ghost use Rattle.isa.specs.Encodes as Encodes;
 
 use crate::{Format, Instruction};
 
-// registers from 0 up to these limits, the constant from low to high and a multiple of step
+// Registers from 0 up to these limits, the constant from low to high and a multiple of step. No plainer as a struct: these are
+// the numbers of document 01 in a row for each format, and a struct's literals would take eight lines each.
 #[tactic(auto, unfolding(crate::specs::Encodes::within))]
 fn within(i: Instruction, rd: u8, rs1: u8, rs2: u8, low: i32, high: i32, step: u32) -> bool
     requires { 0 < step }
