@@ -6,7 +6,7 @@ ghost use Rattle.formats.specs.Chain as Chain;
 use crate::{Kind, Record, schedule};
 use refusals::Refusal;
 
-const MOST_RECORDS: usize = 8_192;
+const MOST_RECORDS: usize = schedule::LONGEST / schedule::RECORD_LENGTH;
 
 // refusal 24 for the kind, 25 for a field that must be zero
 fn check_record(r: Record) -> Result<(), Refusal>

@@ -14,7 +14,8 @@ pub use schedule::{RECORD_LENGTH, check_head, first_index, record_at, registers_
 // One event of a schedule, and the index of the record after it.
 #[derive(Clone, Copy, Debug, PartialEq, Eq)]
 pub struct Record {
-    // a number and no `Kind`: refusal 24 answers a number that is no kind
+    // a number and no `Kind`: `record_at` would answer a Result, and every event would meet an unknown kind again, which the
+    // chain's check has refused
     pub kind: u8,
     pub position: u8,
     pub next: u16,

@@ -6,15 +6,12 @@ pub const RESULT_WORDS: usize = 39;
 
 pub const RESULT_LENGTH: usize = 4 * RESULT_WORDS;
 
-// the words in the lent bytes, each with its lowest byte first. By `store` at each place, since std says of what
-// `chunks_mut` lent out no more than the length. Inner: replay uses it.
+// the words in the lent bytes, each with its lowest byte first. Inner: replay uses it.
 pub fn lay(words: [u32; RESULT_WORDS], res: &mut [u8])
     requires { length res.old ≡ result_length }
     ensures { res.new ≡ result_bytes words }
 {
-    for i in 0..RESULT_WORDS {
-        word::store(res, 4 * i, 4, words[i]);
-    }
+    res.copy_from_slice(words.map(u32::to_le_bytes).as_flattened());
 }
 
 // committed in 1,000 accepted calls, rounded to the nearest. Inner: replay uses it.

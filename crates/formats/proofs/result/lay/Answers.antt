@@ -1,25 +1,18 @@
-use mathlib.Core.Path.{refl, ap, ◌∙◌}
+use mathlib.Core.Path.{◌≡◌, sym, ◌∙◌}
+use mathlib.Core.List.{[]}
 use native.Mathlib.Omega.{arith}
 use borrow.Author.Rules.{rules}
-use Prim.Native.Nat.{◌+◌, ◌*◌}
-use lib.ListN.{length, get_or, take}
-use mathlib.Core.Path.{◌≡◌}
-use Rattle.word.proofs.BytesLaws.{put_length}
-use Rattle.formats.specs.Result.{result_words, result_bytes}
-use Rattle.formats.proofs.ResultLaws.{laid}
+use lib.ListN.{length}
+use Rattle.formats.specs.Result.{result_words}
+use Rattle.formats.proofs.ResultLaws.{bytes_of}
 use Rattle.formats.proofs.result.lay.Goals as goal
 
-pub loop-i-init : goal.loop-i-init
-unfolding result_bytes
-loop-i-init c = record { long = c.requires; laid = refl }
+pub copy_from_slice-requires : goal.copy_from_slice-requires
+copy_from_slice-requires c = omega (arith, c.requires, c.as_flattened.ensures.len, c.map.ensures.items.long)
 
-pub loop-i-preserved : goal.loop-i-preserved
-loop-i-preserved c =
-    let words = c.args.words in
-    let l = c.loop-i in
-    let e = c.store.ensures in
-    let long : length words ≡ result_words = search rules in
-    record {
-      long = ap length e ∙ put_length 4 l.res (4 * l.i) (get_or words l.i 0) ∙ l.invariant.long;
-      laid = ap (take (4 * (l.i + 1))) e ∙ laid words l.res l.i (omega arith) (omega arith) l.invariant.laid;
-    }
+pub returns : goal.returns
+returns c =
+    let words : length c.args.words ≡ result_words = search rules in
+    let parts = c.map.ensures.items in
+    c.copy_from_slice.ensures.after ∙ c.as_flattened.ensures.value
+    ∙ bytes_of c.args.words c.map.result (parts.long ∙ sym words) (λ i l. let call = (parts.at i 0 [] (omega arith)).2 in search rules)
