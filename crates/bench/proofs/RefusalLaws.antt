@@ -52,34 +52,39 @@ module _ (s : Setup) where
   set_core core e = ap (λ (a : Answer). a.core) e ∙ rw (eq-eqb (set_up_refusal s) 0 (sym (set_number (Ok core) e)))
 
 -- neither the lengths, nor the result's, nor record 0 are refused, and record 0 gives W and N
-module _ (program memory schedule : List ℕ) (size window registers : ℕ)
-    (lengths : 0 ≡ length_refusal program memory) (right : size ≡ result_length) (head : 0 ≡ head_refusal schedule)
-    (w : window ≡ window_in schedule) (n : registers ≡ registers_in schedule) where
+pub record Passed (program memory schedule : List ℕ) (size window registers : ℕ) : Type 0 where
+  pub lengths : 0 ≡ length_refusal program memory
+  pub right : size ≡ result_length
+  pub head : 0 ≡ head_refusal schedule
+  pub window_is : window ≡ window_in schedule
+  pub registers_are : registers ≡ registers_in schedule
+
+module _ {program memory schedule : List ℕ} {size window registers : ℕ} (p : Passed program memory schedule size window registers) where
   abbrev set : Setup
   set = setup_of window registers (length program) (length memory)
 
   same : set ≡ setup_in program memory schedule
-  same = rw (w, n)
+  same = rw (p.window_is, p.registers_are)
 
   pub set_stop : (refusal : Refusal) → set_up_answer (Err refusal) ≡ set_up_of set → number refusal ≡ replay_refusal program memory schedule size
   unfolding replay_refusal first
   set_stop refusal e =
       let is : set_up_refusal (setup_in program memory schedule) ≡ number refusal = sym (set_number set (Err refusal) e ∙ ap set_up_refusal same) in
-      rw (← lengths, eq-eqb size result_length right, ← head, is, ne_eqb (number refusal) 0 (number_some refusal))
+      rw (← p.lengths, eq-eqb size result_length p.right, ← p.head, is, ne_eqb (number refusal) 0 (number_some refusal))
 
   accepted : (core : Core) → set_up_answer (Ok core) ≡ set_up_of set → set_up_refusal (setup_in program memory schedule) ≡ 0
   accepted core e = sym (set_number set (Ok core) e ∙ ap set_up_refusal same)
 
   pub chain_last : (core : Core) → set_up_answer (Ok core) ≡ set_up_of set → (k : ℕ) → k ≡ schedule_refusal schedule → k ≡ replay_refusal program memory schedule size
   unfolding replay_refusal first
-  chain_last core e k is = rw (← lengths, eq-eqb size result_length right, ← head, accepted core e, ← is) (alone k (eqb k 0) refl)
+  chain_last core e k is = rw (← p.lengths, eq-eqb size result_length p.right, ← p.head, accepted core e, ← is) (alone k (eqb k 0) refl)
 
   pub begun_ready : (core : Core) → set_up_answer (Ok core) ≡ set_up_of set → 0 ≡ schedule_refusal schedule → Ready core program memory schedule
   begun_ready core e chain =
       record {
         fresh = set_core set core e ∙ ap fresh_machine same;
         accepted = accepted core e;
-        fits = head_fits schedule (sym head);
+        fits = head_fits schedule (sym p.head);
         chain = sym chain;
       }
 

@@ -5,7 +5,8 @@ use crate::Replayed;
 use formats::RESULT_WORDS;
 
 impl Replayed {
-    // the words of the result: register 0 has none
+    // the words of the result: register 0 has none. No plainer by one table for both: the result has words without names, the
+    // lines that `replay` prints have names.
     pub(crate) fn words(&self) -> [u32; RESULT_WORDS]
         ensures { result ≡ words_of self.now }
     {

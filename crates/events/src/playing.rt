@@ -24,7 +24,9 @@ fn make_event(core: &mut Core, counts: &mut Counts, program: &[u8], data: &mut [
     }
 }
 
-// Makes every event of a schedule on the machine of its set-up, and counts them. Inner: `bench` calls it.
+// Makes every event of a schedule on the machine of its set-up, and counts them. No iterator of records for this and for
+// `formats::check_chain`: the check marks records and ends at the first refusal, and this walk does neither. Inner: `bench`
+// calls it.
 pub fn play(core: &mut Core, program: &[u8], data: &mut [u8], schedule: &[u8]) -> Counts
     requires { Play.Ready core.old program.now «data».old schedule.now }
     ensures { played_by core.new «data».new result ≡ Play.played_of program.now «data».old schedule.now }

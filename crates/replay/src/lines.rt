@@ -2,7 +2,8 @@
 use bench::Replayed;
 use std::io;
 
-// Each field under its name, then each register that is not 0.
+// Each field under its name, then each register that is not 0. No plainer by one table for both: the result has words without
+// names, these lines have names.
 pub fn print(rt: &impl Print, found: &Replayed) -> io::Result<()> {
     let counts = found.counts;
     let fields = [
