@@ -9,8 +9,8 @@ use crate::Cause::{Breakpoint, EnvironmentCall, Illegal};
 use crate::Computation::{Branch, Immediate, Jump, JumpRegister, Register, Upper, UpperAddress};
 use crate::Condition::{Eq, Ge, Geu, Lt, Ltu, Ne};
 
-// What the operation does; a number that is none stops as an illegal word does. A match, since a const table is built
-// anew at each use. Inner: the step and the calls use it.
+// What the operation does; a number that is none stops as an illegal word does. A match: a static would have the same rows, and
+// that a load's size is one that is read holds arm by arm. Inner: the step and the calls use it.
 pub fn action(operation: u8) -> Action
     ensures listed { result ≡ action_of operation }
     ensures loadable { Loadable result }
