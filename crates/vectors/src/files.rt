@@ -5,7 +5,7 @@ use std::io::Read;
 use std::rt::Files;
 
 // What the file holds, up to its end or to the first read that fails. None, after a line on standard error, where it cannot
-// be opened.
+// be opened. It has no clause: std says nothing of what a file or standard error answers, so none could be proved.
 pub fn contents<R: Files + Eprint + Alloc>(
     rt: &R,
     name: &str,

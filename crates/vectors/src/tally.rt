@@ -39,7 +39,8 @@ impl Tally {
         self.tested = self.tested.wrapping_add(1);
     }
 
-    // Two lines: how many were tested, under a name, and how many differ.
+    // Two lines: how many were tested, under a name, and how many differ. Here as in the test programs' own tallies lines of a
+    // report, in part under a name that the struct has not: Display would be no shorter.
     pub fn print(&self, rt: &impl Print, name: &str) -> io::Result<()> {
         println!(rt; "{name} {}", self.tested)?;
         println!(rt; "differ {}", self.differ)
@@ -62,11 +63,12 @@ pub fn add(count: &mut u64, by: u64)
     *count = count.wrapping_add(by);
 }
 
-// One more of the things with this number; a number past the end is not counted.
+// One more of the things with this number; a number past the end is not counted. Tried with `get_mut`: of the slice that it
+// was lent from a proof then knows the length and no element.
 pub fn count(counts: &mut [u64], number: usize)
     ensures { counts.new ≡ counted counts.old number }
 {
     if number < counts.len() {
-        counts[number] = counts[number].wrapping_add(1);
+        add(&mut counts[number], 1);
     }
 }
