@@ -14,5 +14,5 @@ pub const LAST_OPERATION: usize = NAMES.len();
 
 // whether the number is that of one of these operations
 pub fn is_known(number: u32) -> bool {
-    0 < number && number as usize <= LAST_OPERATION
+    (1..=LAST_OPERATION).contains(&(number as usize))
 }
