@@ -55,13 +55,10 @@ fn place(from: u32, k: usize, down: bool) -> usize
 
 // the position of the first entry in this state, from a start on and around
 fn position_of(m: &Core, start: u32, down: bool, wanted: State) -> Option<usize> {
-    for k in 0..64 {
-        let at = place(start, k, down);
-        if at < m.count as usize && m.entries[at].state == wanted {
-            return Some(at);
-        }
-    }
-    None
+    let entries = m.entries.get(..m.count as usize)?;
+    (0..64)
+        .map(|k| place(start, k, down))
+        .find(|at| entries.get(*at).is_some_and(|e| e.state == wanted))
 }
 
 // where a branch or jump at the fetch address would go; 4 is JALR, by document 01
@@ -70,24 +67,18 @@ fn target(i: Instruction, address: u32, registers: &[u32; 32]) -> u32 {
     if i.operation != 4 {
         return address.wrapping_add(constant);
     }
-    match registers.get(i.rs1 as usize) {
-        Some(value) => {
-            let to = value.wrapping_add(constant);
-            to - to % 2
-        }
-        None => 0,
-    }
+    registers.get(i.rs1 as usize).map_or(0, |value| {
+        let to = value.wrapping_add(constant);
+        to - to % 2
+    })
 }
 
-// the next address, the target, a near address, or any number
+// the next address, the target, a near address, or any number; the match is of a weight, which is no kind
 fn guess(program: &[u8], address: u32, registers: &[u32; 32], x: u32) -> u32 {
     match x % 8 {
         0 => x / 8 % 64 * 4,
         1 => x,
-        2..=4 => match reference::fetch(program, address) {
-            Ok(i) => target(i, address, registers),
-            Err(_) => 0,
-        },
+        2..=4 => reference::fetch(program, address).map_or(0, |i| target(i, address, registers)),
         _ => address.wrapping_add(4),
     }
 }
@@ -124,7 +115,7 @@ fn for_entry(m: &Core, x: u32, state: State) -> Call {
 }
 
 // A call for the machine, mostly one that is not refused: where the window is full seldom decode, where the oldest is not
-// completed seldom commit.
+// completed seldom commit. The match is of a weight, which is no kind.
 pub fn chosen(m: &Core, program: &[u8], registers: &[u32; 32], seed: u32) -> Call {
     let pick = draw(seed, 1);
     let x = draw(seed, 2);

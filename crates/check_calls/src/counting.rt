@@ -25,10 +25,11 @@ pub struct Counts {
 
 // a destination without a cause while no register was free
 fn is_steal(before: &Core, after: &Core, position: usize) -> bool {
-    match after.entries.get(position) {
-        Some(e) => { before.free_registers.head == 0 && e.destination != 0 && e.stop.cause == 0 }
-        None => false,
-    }
+    before.free_registers.head == 0
+        && after
+            .entries
+            .get(position)
+            .is_some_and(|e| e.destination != 0 && e.stop.cause == 0)
 }
 
 impl Counts {
@@ -85,8 +86,8 @@ impl Counts {
         println!(rt; "dropped {}", self.dropped)?;
         println!(rt; "wrong predictions {}", self.wrong_predictions)?;
         println!(rt; "commits {}", self.commits)?;
-        for cause in 1..8 {
-            println!(rt; "halts with {cause} {}", self.halts[cause])?;
+        for (cause, halts) in self.halts.iter().enumerate().skip(1) {
+            println!(rt; "halts with {cause} {halts}")?;
         }
         println!(rt; "rounds of further calls {}", self.rounds)?;
         println!(rt; "differences {}", self.differences)?;

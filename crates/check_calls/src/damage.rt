@@ -1,7 +1,7 @@
 // Numbers out of range.
 use renaming::Core;
 
-// A copy of the machine with one number out of range.
+// A copy of the machine with one number out of range. The match is of a weight, which is no kind: each number has the same.
 pub fn damaged(m: &Core, k: u32) -> Core {
     let mut d = *m;
     match k % 8 {

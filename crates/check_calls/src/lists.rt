@@ -55,7 +55,7 @@ impl Run {
         let answered = calls::made_with(&before, &self.program, &mut self.data, call, lengths);
         self.core = answered.after;
         let accepted = answered.refusal.is_none();
-        if accepted && matches!(call, Call::Commit) {
+        if accepted && call == Call::Commit {
             self.ordered.step(&self.program, &mut self.want);
         }
         self.counts.made(&before, call, &answered);
@@ -82,20 +82,14 @@ impl Run {
     // At most four calls, all accepted, the last a commit.
     fn further(&mut self) {
         let start = self.counts.accepted;
-        let mut made = 0;
-        let mut committed = false;
-        for _ in 0..4 {
+        let made = (1..=4).find(|_| {
             let call = calls::further(&self.core);
             self.call(call, Lent::AsSetUp);
-            add(&mut made, 1);
-            if matches!(call, Call::Commit) {
-                committed = true;
-                break;
-            }
-        }
+            call == Call::Commit
+        });
         add(&mut self.counts.rounds, 1);
-        let accepted = self.counts.accepted == start.wrapping_add(made);
-        self.counts.expect_no_difference(accepted && committed);
+        let right = made.is_some_and(|made| self.counts.accepted == start.wrapping_add(made));
+        self.counts.expect_no_difference(right);
     }
 
     fn turn(&mut self, seed: u32) {

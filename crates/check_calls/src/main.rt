@@ -1,5 +1,6 @@
 // Machines driven call by call, with lists of calls from a seed: after every call the report, the data, the next address and
-// the halt are those of the in-order run, a refused call has changed nothing, every register and name is in one place, and the machine is as one between calls.
+// the halt are those of the in-order run, a refused call has changed nothing, every register and name is in one place, and the
+// machine is as one between calls.
 #![tactic(auto)]
 
 mod accounting;

@@ -96,9 +96,7 @@ fn fill<F: Fn(u32) -> u32>(buffer: &mut [u8], word: F)
 {
     for (k, bytes) in buffer.chunks_mut(4).enumerate() {
         let word = word((k % 4096) as u32);
-        for (place, byte) in bytes.iter_mut().zip(word.to_le_bytes()) {
-            *place = byte;
-        }
+        vectors::lay(bytes, 0, &word.to_le_bytes());
     }
 }
 
