@@ -41,7 +41,7 @@ impl Run {
         programs::fill_data(&mut data, seed);
         Ok(Self {
             core: fresh.machine.core,
-            ordered: Ordered::fresh(),
+            ordered: Ordered::default(),
             program,
             want: data.clone()?,
             data,

@@ -4,25 +4,13 @@ use reference::Stepped;
 use renaming::Core;
 use window::Machine;
 
-// As the last step left it.
-#[derive(Clone, Copy)]
+// As the last step left it; the default is address 0, with zeros in the registers.
+#[derive(Clone, Copy, Default)]
 pub struct Ordered {
     pub last: Stepped,
 }
 
 impl Ordered {
-    // From address 0, with zeros in the registers.
-    pub fn fresh() -> Self {
-        Self {
-            last: Stepped {
-                registers: [0; 32],
-                address: 0,
-                stop: Stop::default(),
-                refusal: None,
-            },
-        }
-    }
-
     pub fn has_ended(&self) -> bool {
         self.last.stop != Stop::default() || self.last.refusal.is_some()
     }

@@ -17,7 +17,7 @@ mod table_damage;
 use judging::Trial;
 use std::io;
 
-// what is damaged
+// What is damaged. No plainer otherwise: by `impl Fn` each row is a call of its own, by `dyn` each has a borrow more.
 const DAMAGES: [(&str, fn(&mut Trial)); 24] = [
     ("undamaged", number_damage::none),
     ("W", number_damage::windows),

@@ -146,8 +146,8 @@ fn every() -> Counts {
 pub fn test(rt: &impl Print) -> io::Result<()> {
     let counts = every();
     println!(rt; "set-ups {}", counts.tally.tested)?;
-    for number in 1..5 {
-        println!(rt; "refused by {number} {}", counts.by[number])?;
+    for (number, refused) in counts.by.iter().enumerate().skip(1) {
+        println!(rt; "refused by {number} {refused}")?;
     }
     println!(rt; "accepted {}", counts.by[0])?;
     println!(rt; "differ {}", counts.tally.differ)

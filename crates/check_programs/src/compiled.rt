@@ -15,7 +15,8 @@ const PIECE: u16 = 1_000;
 
 const PIECES: u32 = 1_000;
 
-// Where the run is; it is made in pieces, to see that each goes on where the one before ended.
+// Where the run is; it is made in pieces, to see that each goes on where the one before ended. As `Ran`, with the steps of many
+// runs: a run goes on from these, so no Result.
 #[derive(Clone, Copy, PartialEq, Default)]
 struct Progress {
     registers: [u32; 32],
@@ -32,6 +33,7 @@ impl Progress {
 
     fn go_on(&mut self, program: &[u8], data: &mut [u8]) {
         let ran = reference::run(program, data, self.registers, self.address, PIECE);
+        // by a name: an array moved straight from field to field gets no proof
         let registers = ran.registers;
         *self = Self {
             registers,
@@ -85,7 +87,7 @@ pub fn test<R: Files + Print + Eprint + Alloc<A = Global>>(rt: &R) -> io::Result
     let tally = Tally::of(records, |record: &Record| {
         vectors::lay(&mut data, 0, &record[1168..5264]);
         let progress = run(program(record), &mut data);
-        steps = steps.wrapping_add(progress.steps);
+        vectors::add(&mut steps, progress.steps);
         told(record) == Some(progress) && data.as_slice() == &record[5264..]
     });
     tally.print(rt, "compiled")?;

@@ -42,7 +42,7 @@ pub fn test<R: Files + Print + Eprint + Alloc<A = Global>>(rt: &R) -> io::Result
     let tally = Tally::of(records, |record: &Record| {
         let ran = run(record, &mut data);
         vectors::lay(&mut want, 0, &record[652..]);
-        steps = steps.wrapping_add(ran.steps.into());
+        vectors::add(&mut steps, ran.steps.into());
         told(record) == Some(ran) && data == want
     });
     tally.print(rt, "programs")?;

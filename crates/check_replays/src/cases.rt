@@ -95,8 +95,8 @@ fn one<R: Print + Alloc<A = Global>>(rt: &R, case: Case<'_>, tally: &mut Tally) 
     tally.told(rt, &found, right)
 }
 
-// Replays each case, and hands back the bytes that are left: none, or those of a case that breaks off. A `while let` that goes
-// down what is left of the bytes: an iterator over cases would keep these bytes from what follows the loop.
+// Replays each case, and hands back the bytes that are left: none, or those of a case that breaks off. The `while let` counts no
+// index; `iter::from_fn` would hold the same two lines in a closure, and the bytes left are answered.
 pub fn all<'a, R: Print + Alloc<A = Global>>(
     rt: &R,
     bytes: &'a [u8],

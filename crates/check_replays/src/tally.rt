@@ -7,7 +7,7 @@ use std::io;
 // how many of the cases that differ are named
 const NAMED: u64 = 5;
 
-// The sums of the counts of events.
+// The sums of the counts of events. No generic `Counts` for it: its methods and contracts are of u32, and none serves these sums.
 #[derive(Clone, Copy, Default)]
 struct Sums {
     accepted: u64,

@@ -31,6 +31,7 @@ fn number(refusal: Option<Refusal>) -> u32 {
 
 impl From<Stepped> for Answer {
     fn from(after: Stepped) -> Self {
+        // by a name: an array moved straight from field to field gets no proof
         let registers = after.registers;
         Self {
             registers,
@@ -44,6 +45,7 @@ impl From<Stepped> for Answer {
 
 impl From<Ran> for Answer {
     fn from(after: Ran) -> Self {
+        // by a name: an array moved straight from field to field gets no proof
         let registers = after.registers;
         Self {
             registers,
@@ -77,7 +79,8 @@ fn called(record: &Record, program: &[u8], data: &mut [u8]) -> Answer {
     reference::run(program, data, registers, address, n).into()
 }
 
-// Program, data, and what the data should be afterwards; those of qemu.rt are filled otherwise and kept from step to step.
+// Program, data, and what the data should be afterwards. No struct shared with qemu.rt is plainer: only the three field names
+// would be common.
 #[derive(Drop)]
 struct Memories {
     program: Vec<u8>,
