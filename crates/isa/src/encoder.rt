@@ -20,7 +20,7 @@ fn narrow(number: u32) -> Result<u8, Refusal>
     u8::try_from(number).map_err(|_| Refusal::Encoding)
 }
 
-// The word of these fields, or refusal 30.
+// The word of these fields, or refusal 30. Five numbers, as C hands them over: an `Instruction` cannot hold those above 255.
 #[tactic(auto, using(crate::proofs::Accepted::refused_operation, crate::proofs::Accepted::refused_rd, crate::proofs::Accepted::refused_rs1, crate::proofs::Accepted::refused_rs2))]
 pub fn encode(operation: u32, rd: u32, rs1: u32, rs2: u32, constant: i32) -> Result<u32, Refusal>
     ensures { encoded result ≡ encoded_of (instruction operation rd rs1 rs2 constant) }
