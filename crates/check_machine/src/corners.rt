@@ -12,7 +12,7 @@ const REGISTERS: [u32; 4] = [32, 33, 94, 95];
 pub fn over(rt: &impl Print, name: &str, damage: fn(&mut Trial)) -> io::Result<()>
     requires { IsAlwaysCallable damage }
 {
-    let mut trial = Trial::new();
+    let mut trial = Trial::default();
     for (j, n) in REGISTERS.iter().enumerate() {
         for (i, w) in WINDOWS.iter().enumerate() {
             // the shortest program with the longest data, or the longest program with one data word

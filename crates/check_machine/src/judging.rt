@@ -17,7 +17,7 @@ pub fn passes(m: &Core) -> bool {
 }
 
 // A machine that is changed in one way or another, and how many of the changed ones were judged.
-#[derive(Drop)]
+#[derive(Default, Drop)]
 pub struct Trial {
     pub machine: Core,
     // by what was expected of them
@@ -26,15 +26,6 @@ pub struct Trial {
 }
 
 impl Trial {
-    // Before the first machine. It is no Default, since a Core has none.
-    pub fn new() -> Trial {
-        Trial {
-            machine: Core::zeros(),
-            counts: [0; 3],
-            tally: Tally::default(),
-        }
-    }
-
     pub fn judge(&mut self, m: &Core, expected: Expected) {
         vectors::count(&mut self.counts, expected as usize);
         self.tally.told(match expected {

@@ -49,7 +49,7 @@ impl From<Refusal> for u32 {
     }
 }
 
-// 0 for what is accepted, else the refusal's number.
+// 0 for what is accepted, else the refusal's number. Inner: `window` and the functions for C use it.
 pub fn number_of<T>(outcome: &Result<T, Refusal>) -> u8
     ensures { result ≡ number_in outcome.now }
 {
