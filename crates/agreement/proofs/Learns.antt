@@ -9,7 +9,7 @@ use lib.ListN.{length, get_or, set, take, length-set}
 use lib.Seq.{take-set-lt, get_or-set_other, set-get_or}
 use Rattle.isa.specs.Reads.{choose}
 use Rattle.tables.specs.Table.{look_up, store_under}
-use Rattle.tables.specs.FreeList.{taken}
+use Rattle.tables.specs.FreeList.{taken, taken_head, taken_link}
 use Rattle.tables.specs.Entry.{empty_entry, held, completed_entry, waiting_entry, sleep_entry, wake_entry}
 use Rattle.tables.specs.declared.Entry.{Entry}
 use Rattle.tables.specs.declared.FreeList.{FreeList}
@@ -141,11 +141,14 @@ module _ (v i result : ℕ) (m : Core) (k : Kept m) (there : i < m.count) (victi
         let link = sym kept_link ∙ ap (set m.free_registers.link register) (sym empty) ∙ sym (put_link_lem register m.free_registers.head m.free_registers.link some) in
         ap (λ (pool : FreeList). pooled pool (release v (view_of m))) ((λ j. record { head = head j; link = link j }) ∙ ap (λ (n : ℕ). put n m.free_registers) held_there)
 
+    taken_head_lem : taken_head m.free_registers.link m.free_registers.head ≡ get_or m.free_registers.link register 0
+    taken_head_lem = sym (look_zero m.free_registers.link m.free_registers.head empty) ∙ sym outside
+
+    taken_link_lem : taken_link m.free_registers.link m.free_registers.head ≡ set m.free_registers.link register 0
+    taken_link_lem = sym (store_zero m.free_registers.link m.free_registers.head 0 empty) ∙ sym kept_link
+
     taken_empty : taken m.free_registers ≡ without register m.free_registers.link
-    taken_empty = λ j. record {
-      head = (sym (look_zero m.free_registers.link m.free_registers.head empty) ∙ sym outside) j;
-      link = (sym (store_zero m.free_registers.link m.free_registers.head 0 empty) ∙ sym kept_link) j;
-    }
+    taken_empty = λ j. record { head = taken_head_lem j; link = taken_link_lem j }
 
     pub view_stolen : view_of (learned i register result (robbed v m)) ≡ learn i result (release v (view_of m))
     unfolding robbed

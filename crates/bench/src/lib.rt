@@ -13,6 +13,7 @@ pub use replaying::replay;
 pub struct Replayed {
     pub counts: Counts,
     pub rate: u32,
+    // 0 for none, as the result has it
     pub halt: u32,
     pub next: u32,
     pub registers: [u32; 32],

@@ -39,6 +39,7 @@ fn figures(mut core: Core, program: &[u8], data: &mut [u8], schedule: &[u8]) -> 
 {
     let counts = events::play(&mut core, program, data, schedule);
     let report = Machine { core }.report();
+    // by a name: an array moved straight from field to field gets no proof
     let registers = report.registers;
     Replayed {
         counts,

@@ -89,6 +89,7 @@ struct Memories {
 }
 
 impl Memories {
+    // takes an allocator and may fail, so it is no Default
     fn new(alloc: Global) -> Result<Self, AllocError> {
         Ok(Self {
             program: vec![in alloc; 0; ROOM]?,

@@ -115,6 +115,7 @@ fn fill(data: &mut [u8]) {
 }
 
 impl Memories {
+    // takes an allocator and may fail, so it is no Default
     fn new(alloc: Global) -> Result<Self, AllocError> {
         let mut data = vec![in alloc; 0; LONGEST_DATA]?;
         fill(&mut data);

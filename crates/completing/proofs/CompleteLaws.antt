@@ -18,6 +18,11 @@ pub learned_count : (position register result : ℕ) (m : Core) → (learned pos
 unfolding learned
 learned_count position register result m = refl
 
+-- with a free register
+pub free_register_lem : (position result : ℕ) (m : Core) → ((entry_at m position).destination ≡ 0 → ⊥) → (m.free_registers.head ≡ 0 → ⊥)
+    → learned position m.free_registers.head result m ≡ registered position result m
+free_register_lem position result m z h = rw (ne_eqb (entry_at m position).destination 0 z, ne_eqb m.free_registers.head 0 h)
+
 alone : (n : ℕ) → first (n ∷ []) ≡ n
 unfolding first
 alone n = sym (own_next 0 n refl)

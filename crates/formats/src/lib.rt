@@ -18,6 +18,7 @@ pub struct Record {
     // chain's check has refused
     pub kind: u8,
     pub position: u8,
+    // 0 ends the chain, as in the file
     pub next: u16,
     pub guess: u32,
 }

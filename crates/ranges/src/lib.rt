@@ -5,7 +5,7 @@ pub mod entries;
 pub mod sizes;
 pub mod table;
 
-// The four sizes as a caller asks for them.
+// The four sizes as a caller asks for them. No generic for these and a machine's: they have no method in common.
 #[derive(Clone, Copy, Debug, PartialEq, Eq, Default)]
 pub struct Dimensions {
     pub window: u32,

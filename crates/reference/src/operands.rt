@@ -1,4 +1,4 @@
-// The logical registers that an instruction reads and writes, 0 for none.
+// The logical registers that an instruction reads and writes, 0 for none, as its fields have it.
 ghost use Rattle.std.specs.Prelude.{◌≡◌};
 ghost use Rattle.reference.specs.Step.{first_source, second_source, destination};
 

@@ -1,7 +1,8 @@
 ghost use Rattle.std.specs.Prelude.{◌≡◌};
 ghost use Rattle.reference.specs.Step.{read_register, write_register};
 
-// x0 reads 0. Inner: step and run use it.
+// x0 reads 0. Not by the tables' look-up: that crate is a layer above, and its zero is document 01's of tables. Inner: step and
+// run use it.
 #[tactic(auto, unfolding(crate::specs::Step::read_register))]
 pub fn read(registers: &[u32; 32], r: u8) -> u32
     ensures { result ≡ read_register registers.now r }

@@ -41,6 +41,7 @@ impl From<Refusal> for u8 {
     }
 }
 
+// as C takes it: `From` names its target, so each width has its own
 impl From<Refusal> for u32 {
     ghost from_gives = { λ refusal n. n ≡ number refusal };
 

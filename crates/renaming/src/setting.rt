@@ -28,7 +28,7 @@ fn rising(last: u8) -> FreeList
     FreeList { head: 32, link }
 }
 
-// the logical registers
+// the logical registers, written out as in the definition, which the contracts are then met by computing
 const OWN: [u8; 32] = [
     0, 1, 2, 3, 4, 5, 6, 7, 8, 9, 10, 11, 12, 13, 14, 15, 16, 17, 18, 19, 20, 21, 22, 23, 24, 25,
     26, 27, 28, 29, 30, 31,
@@ -71,7 +71,7 @@ fn fresh(setup: Setup) -> Core
 }
 
 impl Core {
-    // The machine of a refused set-up, all zeros. Inner: `window` uses it.
+    // The machine of a refused set-up: the default, under the name of document 01's "machine of zeros". Inner: `window` uses it.
     pub fn zeros() -> Core
         ensures { result ≡ Machines.zero_machine }
     {

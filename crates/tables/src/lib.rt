@@ -36,7 +36,7 @@ pub struct GeneralMap {
     pub mappings: [Mapping; 32],
 }
 
-// An operand is zero, waiting on a name, or ready with a name and a register.
+// An operand is zero, waiting on a name, or ready with a name and a register: document 01's three cases, no Option.
 #[derive(Clone, Copy, Debug, PartialEq, Eq, Default)]
 pub enum Operand {
     #[default]

@@ -11,7 +11,7 @@ pub use files::contents;
 use std::array;
 pub use tally::{Tally, add, count};
 
-// the byte at an index, 0 past the end
+// the byte at an index, 0 past the end; apart from that of `formats`, which a test is not to take from the code
 fn byte(bytes: &[u8], at: usize) -> u8
     ensures { result ≡ get_or bytes.now at 0 }
 {

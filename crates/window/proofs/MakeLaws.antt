@@ -37,23 +37,41 @@ pub made_handed : {A : Type 0} (m : Core) (memory : List ℕ) (result : Result A
     → made_by m memory (number_of result) ≡ made
 made_handed {A} m memory result refusal made h e = ap (λ (r : Result A Refusal). made_by m memory (number_of r)) (handed_on result refusal h) ∙ e
 
+-- by what the call itself answers
+module _ (program : List ℕ) (call : Call) (w : World) (a : Answer) where
+  pub decode_made : (guess : ℕ) → call ≡ Decode guess → a ≡ decode_of program w.memory guess w.core → make program call w ≡ kept w.memory a
+  unfolding make
+  decode_made guess q e = ap (λ (x : Call). make program x w) q ∙ ap (kept w.memory) (sym e)
+
+  pub issue_made : (position : ℕ) → call ≡ Issue position → a ≡ issue_of program w.memory position w.core → make program call w ≡ kept w.memory a
+  unfolding make
+  issue_made position q e = ap (λ (x : Call). make program x w) q ∙ ap (kept w.memory) (sym e)
+
+  pub complete_made : (position : ℕ) → call ≡ Complete position → a ≡ complete_of program w.memory position w.core → make program call w ≡ kept w.memory a
+  unfolding make
+  complete_made position q e = ap (λ (x : Call). make program x w) q ∙ ap (kept w.memory) (sym e)
+
+  pub commit_made : (written : List ℕ) → call ≡ Commit → commit_of program w.memory w.core ≡ record { answer = a; memory = written } → make program call w ≡ made_by a.core written a.number
+  unfolding make
+  commit_made written q e = ap (λ (x : Call). make program x w) q ∙ ap left e
+
 -- where 5 and 6 do not apply
 module _ (program : List ℕ) (call : Call) (w : World) (a : Answer) where
-  pub decode_made : (guess : ℕ) → call ≡ Decode guess → a ≡ decode_within program guess w.core → kept w.memory a ≡ make_within program call w
+  pub decode_made_within : (guess : ℕ) → call ≡ Decode guess → a ≡ decode_within program guess w.core → kept w.memory a ≡ make_within program call w
   unfolding make_within
-  decode_made guess q e = ap (kept w.memory) e ∙ sym (ap (λ (x : Call). make_within program x w) q)
+  decode_made_within guess q e = ap (kept w.memory) e ∙ sym (ap (λ (x : Call). make_within program x w) q)
 
-  pub issue_made : (position : ℕ) → call ≡ Issue position → a ≡ issue_within w.memory position w.core → kept w.memory a ≡ make_within program call w
+  pub issue_made_within : (position : ℕ) → call ≡ Issue position → a ≡ issue_within w.memory position w.core → kept w.memory a ≡ make_within program call w
   unfolding make_within
-  issue_made position q e = ap (kept w.memory) e ∙ sym (ap (λ (x : Call). make_within program x w) q)
+  issue_made_within position q e = ap (kept w.memory) e ∙ sym (ap (λ (x : Call). make_within program x w) q)
 
-  pub complete_made : (position : ℕ) → call ≡ Complete position → a ≡ complete_within position w.core → kept w.memory a ≡ make_within program call w
+  pub complete_made_within : (position : ℕ) → call ≡ Complete position → a ≡ complete_within position w.core → kept w.memory a ≡ make_within program call w
   unfolding make_within
-  complete_made position q e = ap (kept w.memory) e ∙ sym (ap (λ (x : Call). make_within program x w) q)
+  complete_made_within position q e = ap (kept w.memory) e ∙ sym (ap (λ (x : Call). make_within program x w) q)
 
-  pub commit_made : (written : List ℕ) → call ≡ Commit → commit_within w.memory w.core ≡ record { answer = a; memory = written } → made_by a.core written a.number ≡ make_within program call w
+  pub commit_made_within : (written : List ℕ) → call ≡ Commit → commit_within w.memory w.core ≡ record { answer = a; memory = written } → made_by a.core written a.number ≡ make_within program call w
   unfolding make_within
-  commit_made written q e = sym (ap left e) ∙ sym (ap (λ (x : Call). make_within program x w) q)
+  commit_made_within written q e = sym (ap left e) ∙ sym (ap (λ (x : Call). make_within program x w) q)
 
 pub complete_stole : (call : Call) (position : ℕ) (m : Core) → call ≡ Complete position → (result : Result Bool Refusal) → IfOk result (λ s. s ≡ (needs_register m position && none_free m))
     → IfOk result (λ s. choose s 1 0 ≡ stolen call m)
