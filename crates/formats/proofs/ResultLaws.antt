@@ -9,7 +9,7 @@ use Rattle.std.specs.List.{flat_map}
 use Rattle.formats.specs.Result.{word_bytes, result_bytes}
 
 -- the lowest size bytes of a value, the lowest first
-unfoldable digits : ℕ → ℕ → List ℕ
+unfoldable pub digits : ℕ → ℕ → List ℕ
 digits zero value = []
 digits (suc size) value = value % 256 ∷ digits size (value / 256)
 
