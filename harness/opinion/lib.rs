@@ -8,4 +8,6 @@ pub mod machine;
 pub mod random;
 pub mod replay;
 pub mod schedule;
+pub mod whole;
+pub mod whole_sum;
 pub mod words;
