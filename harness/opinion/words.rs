@@ -176,6 +176,13 @@ fn register_operation(minor: u32, top: u32) -> Operation {
     }
 }
 
+/// The operation with this number; none where no operation has it.
+pub fn operation(number: u8) -> Operation {
+    let row = (number as usize).checked_sub(1);
+    row.and_then(|row| LISTING.get(row))
+        .map_or(Nothing, |&(operation, _, _)| operation)
+}
+
 /// Each by bits 14–12.
 const BRANCHES: [Operation; 8] = [Beq, Bne, Nothing, Nothing, Blt, Bge, Bltu, Bgeu];
 const LOADS: [Operation; 8] = [Lb, Lh, Lw, Nothing, Lbu, Lhu, Nothing, Nothing];
@@ -379,6 +386,10 @@ pub fn execute(
                 false => Err(STORE),
             }
         }
+        // decode meets these three first; only in a machine that no call made can an entry wait with one of the last two
+        Nothing => Err(ILLEGAL),
+        Ecall => Err(ECALL),
+        Ebreak => Err(EBREAK),
         operation if operation as u8 <= Srai as u8 => {
             Ok((computed(operation, a, constant), following))
         }
