@@ -2,7 +2,7 @@
 use crate::words;
 
 /// One instruction; the next address, or the cause of a stop, which changes nothing.
-fn step(
+pub(crate) fn step(
     program: &[u8],
     data: &mut [u8],
     registers: &mut [u32; 32],

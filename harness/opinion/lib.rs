@@ -3,6 +3,7 @@
 //! `stored_cases` writes cases with its results. `machine` is right for the machines that replay reaches, `whole` and the
 //! modules named after it for any.
 pub mod cases;
+pub mod check_calls;
 pub mod in_order;
 pub mod long_run;
 pub mod machine;

@@ -1,4 +1,5 @@
-// Every physical register and every name is in exactly one place: in the pool, committed, or with one entry.
+// Every physical register and every name is in exactly one place: in the pool, committed, or with one entry. And what document 01
+// says of the numbers that are in a pool, and of those that are not.
 use renaming::Core;
 use tables::{FreeList, PLACES};
 
@@ -30,6 +31,18 @@ impl Seen {
         at == 0
     }
 
+    // "The link of a number outside its pool is zero": of one that a walk along the chain has not seen.
+    fn links_rest(&self, pool: &FreeList) -> bool {
+        let mut links = pool.link.iter().zip(&self.counts);
+        links.all(|(link, count)| *count != 0 || *link == 0)
+    }
+
+    // "zero once the name is freed": of the names that a walk along the chain has seen
+    fn names_rest(&self, physical: &[u8; PLACES]) -> bool {
+        let mut registers = physical.iter().zip(&self.counts);
+        registers.all(|(register, count)| *count == 0 || *register == 0)
+    }
+
     // Whether 1 to last were seen once each, the others never.
     fn is_each_once(&self, last: usize) -> bool {
         self.counts
@@ -50,6 +63,9 @@ pub fn holds(m: &Core) -> bool {
     };
     let mut names = registers;
     let ends = registers.walk(&m.free_registers) && names.walk(&m.free_names);
+    let rest = registers.links_rest(&m.free_registers)
+        && names.links_rest(&m.free_names)
+        && names.names_rest(&m.physical);
     for e in entries {
         registers.add(e.held(&m.physical));
         names.add(e.name);
@@ -60,6 +76,7 @@ pub fn holds(m: &Core) -> bool {
         registers.add(mapping.register);
         names.add(mapping.name);
     }
-    ends && registers.is_each_once(m.setup.registers as usize)
+    ends && rest
+        && registers.is_each_once(m.setup.registers as usize)
         && names.is_each_once(m.setup.window as usize + 31)
 }

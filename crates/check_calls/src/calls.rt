@@ -7,12 +7,12 @@ use renaming::Core;
 use tables::State;
 use window::{Call, Machine};
 
-// The machine after a call, and the refusal's number, none where the call is made. The number is document 01's and no
-// `Refusal`: a test that took it from the enum would not see it change.
+// The machine after a call, and 0 or the refusal's number. It is document 01's and no `Refusal`: a test that took it from the enum
+// would not see it change.
 #[derive(Clone, Copy)]
 pub struct Answered {
     pub after: Core,
-    pub refusal: Option<u8>,
+    pub number: u8,
 }
 
 pub fn made(m: &Core, program: &[u8], data: &mut [u8], call: Call) -> Answered {
@@ -20,7 +20,7 @@ pub fn made(m: &Core, program: &[u8], data: &mut [u8], call: Call) -> Answered {
     let answer = machine.make(call, program, data);
     Answered {
         after: answer.machine.core,
-        refusal: (answer.number != 0).then_some(answer.number),
+        number: answer.number,
     }
 }
 
@@ -59,6 +59,16 @@ fn position_of(m: &Core, start: u32, down: bool, wanted: State) -> Option<usize>
     (0..64)
         .map(|k| place(start, k, down))
         .find(|at| entries.get(*at).is_some_and(|e| e.state == wanted))
+}
+
+// The position of the first waiting entry, from a start on and around; 0 where there is none.
+pub fn first_waiting(m: &Core, start: u32) -> usize {
+    position_of(m, start, false, State::Waits).unwrap_or(0)
+}
+
+// The same of an issued one.
+pub fn first_issued(m: &Core, start: u32) -> usize {
+    position_of(m, start, false, State::Issued).unwrap_or(0)
 }
 
 // where a branch or jump at the fetch address would go; 4 is JALR, by document 01

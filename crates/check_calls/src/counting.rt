@@ -19,6 +19,7 @@ pub struct Counts {
     // by the cause
     pub halts: [u64; 8],
     pub rounds: u64,
+    pub drains: u64,
     pub differences: u64,
     pub violations: u64,
 }
@@ -62,8 +63,8 @@ impl Counts {
     // A call that was made.
     pub fn made(&mut self, before: &Core, call: Call, answered: &Answered) {
         add(&mut self.calls, 1);
-        if let Some(number) = answered.refusal {
-            vectors::count(&mut self.refused, number as usize);
+        if answered.number != 0 {
+            vectors::count(&mut self.refused, answered.number as usize);
             return;
         }
         let after = &answered.after;
@@ -90,6 +91,7 @@ impl Counts {
             println!(rt; "halts with {cause} {halts}")?;
         }
         println!(rt; "rounds of further calls {}", self.rounds)?;
+        println!(rt; "drains {}", self.drains)?;
         println!(rt; "differences {}", self.differences)?;
         println!(rt; "violations {}", self.violations)
     }

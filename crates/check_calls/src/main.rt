@@ -1,27 +1,54 @@
 // Machines driven call by call, with lists of calls from a seed: after every call the report, the data, the next address and
 // the halt are those of the in-order run, a refused call has changed nothing, every register and name is in one place, and the
-// machine is as one between calls.
+// machine is as one between calls. Then machines that no list reaches. The second opinion makes the same lists and machines
+// (`harness/stored_calls`): the stored output is what it has computed, with a sum over all that every call left.
 #![tactic(auto)]
 
 mod accounting;
 mod calls;
 mod chance;
+mod changes;
 mod counting;
-mod damage;
+mod handed;
 mod lists;
 mod ordered;
 mod programs;
 mod resting;
+mod run;
+mod sums;
 
 use counting::Counts;
+use handed::Answers;
 use std::io;
+use sums::Sum;
 
-const LISTS: u32 = 600;
+// groups of lists and of machines, a line for the sums of each
+const LISTS: u32 = 200;
+
+const MACHINES: u32 = 120;
+
+fn all_lists(rt: &HostRuntime) -> io::Result<()> {
+    let mut counts = Counts::default();
+    for group in 0..LISTS {
+        let mut sum = Sum::start();
+        for k in 0..10 {
+            sum.add(lists::list(rt.alloc(), 10 * group + k, &mut counts)?);
+        }
+        println!(rt; "lists from {} on: {:016x}", 10 * group, sum.value)?;
+    }
+    counts.print(rt)
+}
+
+fn all_machines(rt: &HostRuntime) -> io::Result<()> {
+    let mut answers = Answers::default();
+    for k in 0..MACHINES {
+        let sum = handed::machines(rt.alloc(), k, &mut answers)?;
+        println!(rt; "machines of list {k}: {sum:016x}")?;
+    }
+    answers.print(rt)
+}
 
 fn main(rt: HostRuntime) -> io::Result<()> {
-    let mut counts = Counts::default();
-    for k in 0..LISTS {
-        counts = lists::list(rt.alloc(), k, counts)?;
-    }
-    counts.print(&rt)
+    all_lists(&rt)?;
+    all_machines(&rt)
 }

@@ -1,6 +1,7 @@
 // Programs and data from a seed: arithmetic on few registers, loads and stores over small data, short branches and jumps,
 // and now and then an instruction that stops. The matches are of weights, which are no kinds: how often each instruction comes.
 use crate::chance::draw;
+use isa::Instruction;
 
 // the word, or 0 where there is none
 fn encoded(operation: u32, rd: u32, rs1: u32, rs2: u32, constant: u32) -> u32 {
@@ -88,6 +89,17 @@ fn instruction(seed: u32, k: u32) -> u32 {
         49..=60 => jumping(s, kind),
         _ => ending(s, kind),
     }
+}
+
+// The instruction of a seed; one of none where its word is illegal.
+pub fn read(seed: u32) -> Instruction {
+    isa::read(instruction(seed, 0)).unwrap_or_default()
+}
+
+// A load or a store of a seed.
+pub fn read_memory(seed: u32) -> Instruction {
+    let kind = 37 + draw(seed, 0) % 12;
+    isa::read(memory(draw(seed, 1), kind)).unwrap_or_default()
 }
 
 // each four bytes become a word's, the lowest first

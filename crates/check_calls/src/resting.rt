@@ -1,4 +1,5 @@
 // What document 01 says of a machine between calls, whatever they were.
+use isa::Instruction;
 use renaming::Core;
 use tables::{Entry, GeneralMap, State};
 
@@ -10,8 +11,23 @@ fn map_rests(map: &GeneralMap) -> bool {
 }
 
 // "A waiting entry's values and result are zero"
-fn entry_rests(e: &Entry) -> bool {
+fn waits_with_zeros(e: &Entry) -> bool {
     e.state != State::Waits || (e.first == 0 && e.second == 0 && e.result == 0)
+}
+
+// "Where decode found no instruction, the entry keeps operation 0 with zero fields": completed with cause 1 or 4.
+fn instruction_rests(e: &Entry) -> bool {
+    let entered = e.state == State::Completed && (e.stop.cause == 1 || e.stop.cause == 4);
+    e.instruction.operation != 0 || (entered && e.instruction == Instruction::default())
+}
+
+// a cause only in a completed entry
+fn cause_rests(e: &Entry) -> bool {
+    e.stop.cause == 0 || e.state == State::Completed
+}
+
+fn entry_rests(e: &Entry) -> bool {
+    waits_with_zeros(e) && instruction_rests(e) && cause_rests(e)
 }
 
 // "a place past the last entry is all zeros"

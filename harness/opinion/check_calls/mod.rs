@@ -1,0 +1,61 @@
+//! The lists of calls and the machines of the test program `check_calls`, made once more, file by file, and driven on `whole`:
+//! what that program has to print. The choices are the same, by the same numbers; what the calls do is written apart.
+mod calls;
+mod chance;
+mod changes;
+mod counting;
+mod handed;
+mod lists;
+mod programs;
+mod run;
+
+use counting::Counts;
+use handed::Answers;
+use std::fmt::{Result, Write};
+
+/// FNV-1a's numbers, over numbers in place of bytes, as in `whole_sum`.
+#[derive(Clone, Copy)]
+struct Sum(u64);
+
+impl Sum {
+    fn start() -> Sum {
+        Sum(0xcbf2_9ce4_8422_2325)
+    }
+
+    fn add(&mut self, number: u64) {
+        self.0 = (self.0 ^ number).wrapping_mul(0x0000_0100_0000_01b3);
+    }
+
+    fn bytes(&mut self, bytes: &[u8]) {
+        self.add(crate::whole_sum::sum_bytes(Sum::start().0, bytes));
+    }
+
+    fn words(&mut self, words: &[u32]) {
+        for &word in words {
+            self.add(word as u64);
+        }
+    }
+}
+
+/// Groups of ten lists, and lists of whose machines some are changed.
+const LISTS: u32 = 200;
+const MACHINES: u32 = 120;
+
+/// What `check_calls` has to print.
+pub fn print(out: &mut impl Write) -> Result {
+    let mut counts = Counts::default();
+    for group in 0..LISTS {
+        let mut sum = Sum::start();
+        for k in 0..10 {
+            sum.add(lists::list(10 * group + k, &mut counts));
+        }
+        writeln!(out, "lists from {} on: {:016x}", 10 * group, sum.0)?;
+    }
+    counts.print(out)?;
+    let mut answers = Answers::default();
+    for k in 0..MACHINES {
+        let sum = handed::machines(k, &mut answers);
+        writeln!(out, "machines of list {k}: {sum:016x}")?;
+    }
+    answers.print(out)
+}
