@@ -94,6 +94,17 @@ pub spells_none : (link : List ℕ) (head : ℕ) → Spells link head [] → hea
 unfolding Spells
 spells_none link head s = s
 
+-- it spells one list
+pub spells_one : (link : List ℕ) (head : ℕ) (xs ys : List ℕ) → Spells link head xs → Spells link head ys → xs ≡ ys
+unfolding Spells
+spells_one link head [] [] s t = refl
+spells_one link head [] (y ∷ ys) s t = absurd (t.1 (sym t.0 ∙ s))
+spells_one link head (x ∷ xs) [] s t = absurd (s.1 (sym s.0 ∙ t))
+spells_one link head (x ∷ xs) (y ∷ ys) s t =
+    let e : x ≡ y = sym s.0 ∙ t.0 in
+    ap (λ (n : ℕ). n ∷ xs) e
+    ∙ ap (λ (rest : List ℕ). y ∷ rest) (spells_one link (look_under 0 link y) xs ys (subst (λ (n : ℕ). Spells link (look_under 0 link n) xs) e s.2) t.2)
+
 pub spells_other : (link : List ℕ) (k v head : ℕ) (ns : List ℕ) → occurrences k ns ≡ 0 → Spells link head ns → Spells (set link k v) head ns
 unfolding Spells occurrences same
 spells_other link k v head [] o s = s

@@ -1,15 +1,16 @@
 -- Laws of a property that every element of a list has.
 use Prim.Native.Nat.{ℕ, ◌<◌}
-use mathlib.Core.Path.{◌≡◌, refl, ap}
+use mathlib.Core.Path.{◌≡◌, refl, ap, subst, ◌∙◌}
 use mathlib.Core.Logic.{◌≢◌}
 use mathlib.Core.List.{List, [], ◌∷◌, map}
 use native.Mathlib.Omega.{arith}
 use lib.ListN.{length, get_or, set, length-set}
 use lib.Seq.{get_or-set_other, get_or-set_same}
 use Rattle.std.specs.List.{All}
-use Rattle.std.proofs.lemmas.List.Elements.{All-from_get_or}
+use Rattle.std.proofs.lemmas.List.Elements.{All-head, All-tail, All-from_get_or}
 use Rattle.tables.specs.FreeList.{occurrences}
-use Rattle.agreement.proofs.Counting.{count_at}
+use Rattle.tables.proofs.PoolLaws.{occurs_later}
+use Rattle.agreement.proofs.Counting.{count_none, count_at}
 use Rattle.agreement.proofs.Tests.{equal, apart, eq?}
 
 module _ {A : Type 0} where
@@ -27,3 +28,11 @@ module _ {A : Type 0} where
 -- of a list in which a number does not occur
 pub all_absent : (q : ℕ → Type 0) (ns : List ℕ) (n : ℕ) → occurrences n ns ≡ 0 → (r : ℕ → Type 0) → ((k : ℕ) → k ≢ n → q k → r k) → All q ns → All r ns
 all_absent q ns n o r f a = All-from_get_or r ns 0 (λ i h. f (get_or ns i 0) (λ e. omega (arith, count_at ns i h, ap (λ (x : ℕ). occurrences x ns) e)) (a i 0 h))
+
+-- of a number that occurs in it
+pub all_occurring : (q : ℕ → Type 0) (ns : List ℕ) (n : ℕ) → occurrences n ns ≢ 0 → All q ns → q n
+all_occurring q [] n o a = absurd (o (count_none n))
+all_occurring q (x ∷ ns) n o a = elim (eq? x n) [
+  | equal e t ↦ subst q e (All-head q x ns a)
+  | apart e t ↦ all_occurring q ns n (λ z. o (occurs_later n x ns e ∙ z)) (All-tail q x ns a)
+]

@@ -64,6 +64,13 @@ pub mod Reaching
 pub mod Oldest
 pub mod Onward
 pub mod Demand
+-- what holds between calls
+pub mod Rest
+pub mod RestChanges
+pub mod RestTurns
+pub mod RestPools
+pub mod RestEntries
+pub mod Rests
 -- drain
 pub mod Shrinks
 pub mod DrainSteps

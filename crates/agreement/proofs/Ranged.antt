@@ -204,14 +204,14 @@ missing_step program s e =
     ap (λ (b : Bool). let x : Step = choose b (step_with f.fields s) (stopped_at s f.stop) in x.stop.cause) e
 
 -- what an entry's state says
-record Stated (p : List ℕ) (s : State) (e : Entry) (bytes : ℕ) : Type 0 where
-  cause : e.stop.cause ≤ 7
-  caused : e.state ≢ Completed → e.stop.cause ≡ 0
-  ends : e.state ≡ Completed → e.stop.cause ≡ 0 → store_ends_within bytes e.instruction e.first ≡ true
-  none : (fetch_at p s.address).found ≡ false → (e.state ≡ Completed) × (e.stop.cause ≡ (fetch_at p s.address).stop.cause)
+pub record Stated (p : List ℕ) (s : State) (e : Entry) (bytes : ℕ) : Type 0 where
+  pub cause : e.stop.cause ≤ 7
+  pub caused : e.state ≢ Completed → e.stop.cause ≡ 0
+  pub ends : e.state ≡ Completed → e.stop.cause ≡ 0 → store_ends_within bytes e.instruction e.first ≡ true
+  pub none : (fetch_at p s.address).found ≡ false → (e.state ≡ Completed) × (e.stop.cause ≡ (fetch_at p s.address).stop.cause)
 
 module _ (p : List ℕ) (g : Ghost) (s : State) (e : Entry) (bytes : ℕ) (sized : length s.memory ≡ bytes) (executes : Executes p g s (execution_of e)) where
-  stated : Status p s (execution_of e) → Stated p s e bytes
+  pub stated : Status p s (execution_of e) → Stated p s e bytes
   stated (waits now clean x) =
       record { cause = omega arith; caused = λ z. clean; ends = λ z. absurd (different z); none = λ f. absurd (missing_cause p s.address f x) }
     where

@@ -3,7 +3,7 @@ use Rattle.std.specs.Prelude.{ℕ, ◌≤◌, ◌<◌, ◌≡◌, ◌≢◌, tru
 use Rattle.isa.specs.Reads.{none}
 use Rattle.reference.specs.Fetch.{fetch_at}
 use Rattle.tables.specs.Table.{look_up}
-use Rattle.tables.specs.FreeList.{occurrences, Pool}
+use Rattle.tables.specs.FreeList.{Spells, occurrences, Pool}
 use Rattle.tables.specs.GeneralMap.{shown}
 use Rattle.tables.specs.Entry.{empty_entry}
 use Rattle.tables.specs.declared.FreeList.{FreeList}
@@ -34,15 +34,16 @@ pub record EntryRests (program : List ℕ) (e : Entry) : Type 0 where
   -- operation 0 stands there alone: "where that reading gives no instruction, …, the entry enters completed with cause 4, 1 …"
   pub nowhere_else : e.instruction.operation ≡ 0
       → ((fetch_at program e.address).found ≡ false) × (e.state ≡ Completed) × (eqb e.stop.cause 1 || eqb e.stop.cause 4 ≡ true)
-  -- a cause stands in no entry that is not completed
+  -- "a cause in an entry not completed" is met nowhere
   pub caused : e.stop.cause ≢ 0 → e.state ≡ Completed
 
 -- "Each pool is a chain: a head, and for each free number the next; zero ends it."
 pub record PoolRests (pool : FreeList) : Type 0 where
-  -- the numbers that the chain spells; it spells one list alone (`one_list` in tables/proofs/PoolLaws.antt)
   pub numbers : List ℕ
-  -- each once; "The link of a number outside its pool is zero."
+  -- these numbers, each once; "The link of a number outside its pool is zero."
   pub chain : Pool pool.link pool.head numbers
+  -- the chain spells no other list
+  pub alone : (others : List ℕ) → Spells pool.link pool.head others → others ≡ numbers
 
 pub record Resting (program : List ℕ) (m : Core) : Type 0 where
   pub mappings : (logical : ℕ) → MappingRests m.physical (shown m.map logical)
@@ -51,7 +52,7 @@ pub record Resting (program : List ℕ) (m : Core) : Type 0 where
   pub past : (position : ℕ) → m.count ≤ position → entry_at m position ≡ empty_entry
   pub registers : PoolRests m.free_registers
   pub names : PoolRests m.free_names
-  -- the physical map: "zero once the name is freed"
+  -- "The physical map holds for each name its register, zero once the name is freed."
   pub freed : (name : ℕ) → occurrences name names.numbers ≢ 0 → look_up m.physical name ≡ 0
 
 abbrev pub Rests : Type 0
