@@ -37,14 +37,14 @@ impl Sum {
     }
 }
 
-/// Groups of ten lists, and lists of whose machines some are changed.
-const LISTS: u32 = 200;
-const MACHINES: u32 = 120;
+/// As many as `check_calls` has: groups of ten lists, and lists of whose machines some are changed.
+pub const LISTS: u32 = 200;
+pub const MACHINES: u32 = 120;
 
-/// What `check_calls` has to print.
-pub fn print(out: &mut impl Write) -> Result {
+/// What `check_calls` has to print, with so many of both.
+pub fn print(out: &mut impl Write, lists: u32, machines: u32) -> Result {
     let mut counts = Counts::default();
-    for group in 0..LISTS {
+    for group in 0..lists {
         let mut sum = Sum::start();
         for k in 0..10 {
             sum.add(lists::list(10 * group + k, &mut counts));
@@ -53,7 +53,7 @@ pub fn print(out: &mut impl Write) -> Result {
     }
     counts.print(out)?;
     let mut answers = Answers::default();
-    for k in 0..MACHINES {
+    for k in 0..machines {
         let sum = handed::machines(k, &mut answers);
         writeln!(out, "machines of list {k}: {sum:016x}")?;
     }
