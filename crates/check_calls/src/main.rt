@@ -22,7 +22,9 @@ use handed::Answers;
 use std::io;
 use sums::Sum;
 
-// groups of lists and of machines, a line for the sums of each
+// Groups of ten lists, and lists of whose machines some are changed; a line for the sum of each. With checks (`rt try`) all of them
+// take minutes: scripts that make the calls wrong write smaller numbers here, and `harness/stored_calls` tells what is to be
+// printed then.
 const LISTS: u32 = 200;
 
 const MACHINES: u32 = 120;
