@@ -108,8 +108,13 @@ fn fullest(run: &mut Run, seed: u32, n: u32) -> Core {
 }
 
 // Of a list that breaks off so many machines, each with some changes; the sum of what their calls leave.
-pub fn machines(alloc: Global, k: u32, answers: &mut Answers) -> Result<u64, AllocError> {
-    let seed = draw(0x2468_ace0, k).wrapping_add(1);
+pub fn machines(
+    alloc: Global,
+    from: u32,
+    k: u32,
+    answers: &mut Answers,
+) -> Result<u64, AllocError> {
+    let seed = draw(!from, k).wrapping_add(1);
     let mut run = Run::set_up(alloc, k | 1, seed, Counts::default())?;
     let fullest = fullest(&mut run, seed, 10 + draw(seed, 104) % 110);
     let mut sum = Sum::start();

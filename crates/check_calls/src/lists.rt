@@ -7,8 +7,8 @@ use std::alloc::{AllocError, Global};
 use vectors::add;
 
 // A whole list; what was seen in it comes to the counts. Its sum is handed back.
-pub fn list(alloc: Global, k: u32, counts: &mut Counts) -> Result<u64, AllocError> {
-    let seed = draw(0x1234_5678, k).wrapping_add(1);
+pub fn list(alloc: Global, from: u32, k: u32, counts: &mut Counts) -> Result<u64, AllocError> {
+    let seed = draw(from, k).wrapping_add(1);
     let mut run = Run::set_up(alloc, k, seed, *counts)?;
     run.turns(seed, 200, Until::Halt);
     run.end(chance::next(seed));

@@ -22,19 +22,21 @@ use handed::Answers;
 use std::io;
 use sums::Sum;
 
-// Groups of ten lists, and lists of whose machines some are changed; a line for the sum of each. With checks (`rt try`) all of them
-// take minutes: scripts that make the calls wrong write smaller numbers here, and `harness/stored_calls` tells what is to be
-// printed then.
+// Groups of ten lists, and lists of whose machines some are changed; a line for the sum of each. Scripts write other numbers here, and
+// `harness/stored_calls` tells what is to be printed then: fewer where the calls are made wrong, since a run with checks takes
+// minutes, and more in `harness/compare_calls`.
 const LISTS: u32 = 200;
 
 const MACHINES: u32 = 120;
+
+const SEED: u32 = 0x1234_5678;
 
 fn all_lists(rt: &HostRuntime) -> io::Result<()> {
     let mut counts = Counts::default();
     for group in 0..LISTS {
         let mut sum = Sum::start();
         for k in 0..10 {
-            sum.add(lists::list(rt.alloc(), 10 * group + k, &mut counts)?);
+            sum.add(lists::list(rt.alloc(), SEED, 10 * group + k, &mut counts)?);
         }
         println!(rt; "lists from {} on: {:016x}", 10 * group, sum.value)?;
     }
@@ -44,7 +46,7 @@ fn all_lists(rt: &HostRuntime) -> io::Result<()> {
 fn all_machines(rt: &HostRuntime) -> io::Result<()> {
     let mut answers = Answers::default();
     for k in 0..MACHINES {
-        let sum = handed::machines(rt.alloc(), k, &mut answers)?;
+        let sum = handed::machines(rt.alloc(), SEED, k, &mut answers)?;
         println!(rt; "machines of list {k}: {sum:016x}")?;
     }
     answers.print(rt)

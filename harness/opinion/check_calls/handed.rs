@@ -102,8 +102,8 @@ fn fullest(run: &mut Run, seed: u32, n: u32) -> Whole {
 }
 
 /// Of a list that breaks off so many machines, each with some changes; the sum of what their calls leave.
-pub fn machines(k: u32, answers: &mut Answers) -> u64 {
-    let mut seed = draw(0x2468_ace0, k).wrapping_add(1);
+pub fn machines(from: u32, k: u32, answers: &mut Answers) -> u64 {
+    let mut seed = draw(!from, k).wrapping_add(1);
     let mut run = Run::set_up(k | 1, seed, Counts::default());
     let fullest = fullest(&mut run, seed, 10 + draw(seed, 104) % 110);
     let mut sum = Sum::start();

@@ -4,8 +4,8 @@ use super::counting::Counts;
 use super::run::{Run, Until};
 
 /// A whole list; what was seen in it comes to the counts. Its sum is handed back.
-pub fn list(k: u32, counts: &mut Counts) -> u64 {
-    let seed = draw(0x1234_5678, k).wrapping_add(1);
+pub fn list(from: u32, k: u32, counts: &mut Counts) -> u64 {
+    let seed = draw(from, k).wrapping_add(1);
     let mut run = Run::set_up(k, seed, *counts);
     run.turns(seed, 200, Until::Halt);
     run.end(chance::next(seed));

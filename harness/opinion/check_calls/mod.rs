@@ -40,21 +40,22 @@ impl Sum {
 /// As many as `check_calls` has: groups of ten lists, and lists of whose machines some are changed.
 pub const LISTS: u32 = 200;
 pub const MACHINES: u32 = 120;
+pub const SEED: u32 = 0x1234_5678;
 
-/// What `check_calls` has to print, with so many of both.
-pub fn print(out: &mut impl Write, lists: u32, machines: u32) -> Result {
+/// What `check_calls` has to print, with so many of both, from a seed.
+pub fn print(out: &mut impl Write, lists: u32, machines: u32, seed: u32) -> Result {
     let mut counts = Counts::default();
     for group in 0..lists {
         let mut sum = Sum::start();
         for k in 0..10 {
-            sum.add(lists::list(10 * group + k, &mut counts));
+            sum.add(lists::list(seed, 10 * group + k, &mut counts));
         }
         writeln!(out, "lists from {} on: {:016x}", 10 * group, sum.0)?;
     }
     counts.print(out)?;
     let mut answers = Answers::default();
     for k in 0..machines {
-        let sum = handed::machines(k, &mut answers);
+        let sum = handed::machines(seed, k, &mut answers);
         writeln!(out, "machines of list {k}: {sum:016x}")?;
     }
     answers.print(out)
