@@ -9,25 +9,26 @@ mod lists;
 mod programs;
 mod run;
 
+use crate::whole::sum;
 use counting::Counts;
 use handed::Answers;
 use std::fmt::{Result, Write};
 
-/// FNV-1a's numbers, over numbers in place of bytes, as in `whole_sum`.
+/// A sum over numbers, as of a machine.
 #[derive(Clone, Copy)]
 struct Sum(u64);
 
 impl Sum {
     fn start() -> Sum {
-        Sum(0xcbf2_9ce4_8422_2325)
+        Sum(sum::START)
     }
 
     fn add(&mut self, number: u64) {
-        self.0 = (self.0 ^ number).wrapping_mul(0x0000_0100_0000_01b3);
+        self.0 = sum::added(self.0, number);
     }
 
     fn bytes(&mut self, bytes: &[u8]) {
-        self.add(crate::whole_sum::sum_bytes(Sum::start().0, bytes));
+        self.add(sum::sum_bytes(sum::START, bytes));
     }
 
     fn words(&mut self, words: &[u32]) {

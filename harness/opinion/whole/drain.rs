@@ -1,7 +1,7 @@
 //! Drain and the report on any machine.
+use crate::whole::changes::look;
+use crate::whole::range::OUT_OF_RANGE;
 use crate::whole::{State, Whole, LOGICAL};
-use crate::whole_changes::look;
-use crate::whole_range::OUT_OF_RANGE;
 
 impl Whole {
     /// "Drain makes the calls that commit position 0 until no entry is left or the machine halts, and counts accepted calls"; "at

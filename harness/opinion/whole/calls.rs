@@ -1,6 +1,6 @@
 //! The four calls on any machine. "Calls check 5, 6, then 10 to 16 rising"; all that is refused is found before anything changes.
+use crate::whole::changes::{look, put};
 use crate::whole::{Entry, Fields, Mapping, Operand, State, Whole};
-use crate::whole_changes::{look, put};
 use crate::words::{self, Instruction, Operation};
 
 pub const HALTED: u8 = 10;

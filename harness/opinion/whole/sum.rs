@@ -2,11 +2,12 @@
 //! struct, and part of the format: who computes the sum elsewhere goes in the same order.
 use crate::whole::{Entry, Fields, Mapping, Operand, Pool, Setup, Whole};
 
-const START: u64 = 0xcbf2_9ce4_8422_2325;
+// FNV-1a's numbers, over numbers in place of bytes
+pub const START: u64 = 0xcbf2_9ce4_8422_2325;
 const FACTOR: u64 = 0x0000_0100_0000_01b3;
 
 /// The sum with one number more.
-fn added(sum: u64, number: u64) -> u64 {
+pub fn added(sum: u64, number: u64) -> u64 {
     (sum ^ number).wrapping_mul(FACTOR)
 }
 

@@ -1,6 +1,11 @@
 //! The machine of document 01 with every number in sight, so that any machine can be built and not only one that calls reach.
-//! Here are its parts, set-up and the sum over all of it; `whole_range` judges its numbers, `whole_calls` and `whole_drain`
-//! change it. It shares the instructions (`words`) with `machine`, and nothing else.
+//! Here are its parts and set-up. `range` judges its numbers; `calls`, with `changes`, and `drain` change it; `sum` adds all of it
+//! up. It shares the instructions (`words`) with `machine`, and nothing else.
+pub mod calls;
+pub mod changes;
+pub mod drain;
+pub mod range;
+pub mod sum;
 
 /// "Names and registers past their limits": the tables reach to 31 + 64 and to 95.
 pub const NUMBERS: usize = 96;
