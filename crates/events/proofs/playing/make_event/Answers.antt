@@ -1,8 +1,9 @@
-use Rattle.std.proofs.Common.{◌≡◌, true, refl}
+use Rattle.std.proofs.Common.{◌≡◌, true, ap, ◌∙◌, refl}
 use Rattle.refusals.proofs.Laws.{number_some}
 use Rattle.renaming.specs.Range.{machine_in_range}
 use Rattle.renaming.proofs.RangeLaws.{in_range_count}
 use Rattle.renaming.proofs.RefusalLaws.{in_range_lent, in_range_window}
+use Rattle.events.specs.Numbers.{played_by}
 use Rattle.events.proofs.CountLaws.{accepting_is}
 use Rattle.events.proofs.EventLaws.{event_refused, event_accepted}
 use Rattle.events.proofs.playing.make_event.Goals.{Start}
@@ -20,8 +21,8 @@ make_within-requires-clause-count c = in_range_count _ (in_range (goal.at.make_w
 pub returns-in-Ok : goal.returns-in-Ok
 returns-in-Ok c =
     let a = c.args in
-    rw (c.accept.ensures, accepting_is c.call_of-call.result a.core.now _ _ a.counts.now c.in-Ok.ensures.stole)
-    (event_accepted a.program.now a.«data».now a.core.now a.r a.counts.now c.call_of-call.result _ _ _ c.requires.lent c.call_of-call.ensures c.in-Ok.ensures.made refl)
+    ap (played_by _ _) (c.accept.ensures ∙ accepting_is c.call_of-call.result a.core.now _ _ a.counts.now c.in-Ok.ensures.stole)
+    ∙ event_accepted a.program.now a.«data».now a.core.now a.r a.counts.now c.call_of-call.result _ _ _ c.requires.lent c.call_of-call.ensures c.in-Ok.ensures.made refl
 
 pub returns-in-Err : goal.returns-in-Err
 returns-in-Err c =
