@@ -1,7 +1,7 @@
 // Machines that no list reaches: a machine with some of its numbers changed. Mostly to numbers in range, so that refusal 5 does not
 // answer them all. The matches are of weights, which are no kinds: how often each number is changed.
 use crate::chance::draw;
-use crate::programs;
+use crate::{chance, programs};
 use execution::Stop;
 use isa::Instruction;
 use renaming::Core;
@@ -181,7 +181,7 @@ pub fn changed(m: &Core, seed: u32) -> Core {
     }
     let mut seed = seed;
     for _ in 0..=draw(seed, 0) % 8 {
-        seed = crate::chance::next(seed);
+        seed = chance::next(seed);
         change(&mut changed, seed);
     }
     changed

@@ -115,6 +115,7 @@ pub fn machines(
     answers: &mut Answers,
 ) -> Result<u64, AllocError> {
     let seed = draw(!from, k).wrapping_add(1);
+    // an odd number: W and N are anywhere in their ranges
     let mut run = Run::set_up(alloc, k | 1, seed, Counts::default())?;
     let fullest = fullest(&mut run, seed, 10 + draw(seed, 104) % 110);
     let mut sum = Sum::start();
