@@ -1,16 +1,29 @@
 //! Prints what the test program `check_calls` has to print, as the second opinion computes it: with its numbers of lists and
-//! machines and its seed, or with others. Started by the script `stored_calls`.
+//! machines and its seed, or with others; or, after `--list`, what the calls of one list answer. Started by the script
+//! `stored_calls`.
 use opinion::check_calls::{self, LISTS, MACHINES, SEED};
+use std::env;
 
 fn main() {
-    let mut given = std::env::args().skip(1).map(|word| word.parse());
-    let mut number = |own: u32| match given.next() {
+    let mut words: Vec<String> = env::args().skip(1).collect();
+    let is_list = words.first().is_some_and(|word| word == "--list");
+    if is_list {
+        words.remove(0);
+    }
+    let number = |at: usize, own: u32| match words.get(at) {
         None => own,
-        Some(number) => number.expect("a number"),
+        Some(word) => word.parse().expect("a number"),
     };
-    let (lists, machines, seed) = (number(LISTS), number(MACHINES), number(SEED));
     let mut out = String::new();
-    check_calls::print(&mut out, lists, machines, seed)
-        .expect("a string takes all that is written");
+    let printed = match is_list {
+        true => check_calls::print_list(&mut out, number(0, 0), number(1, SEED)),
+        false => check_calls::print(
+            &mut out,
+            number(0, LISTS),
+            number(1, MACHINES),
+            number(2, SEED),
+        ),
+    };
+    printed.expect("a string takes all that is written");
     print!("{out}");
 }

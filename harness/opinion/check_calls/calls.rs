@@ -3,7 +3,7 @@ use super::chance::draw;
 use crate::whole::{State, Whole};
 use crate::words;
 
-#[derive(Clone, Copy, PartialEq, Eq)]
+#[derive(Clone, Copy, Debug, PartialEq, Eq)]
 pub enum Call {
     Decode(u32),
     Issue(usize),

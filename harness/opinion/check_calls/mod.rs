@@ -49,7 +49,7 @@ pub fn print(out: &mut impl Write, lists: u32, machines: u32, seed: u32) -> Resu
     for group in 0..lists {
         let mut sum = Sum::start();
         for k in 0..10 {
-            sum.add(lists::list(seed, 10 * group + k, &mut counts));
+            sum.add(lists::list(seed, 10 * group + k, &mut counts).total());
         }
         writeln!(out, "lists from {} on: {:016x}", 10 * group, sum.0)?;
     }
@@ -60,4 +60,18 @@ pub fn print(out: &mut impl Write, lists: u32, machines: u32, seed: u32) -> Resu
         writeln!(out, "machines of list {k}: {sum:016x}")?;
     }
     answers.print(out)
+}
+
+/// What the calls of a list answer one after the other, without its drains, to find where a machine goes another way: `Run::sum` of
+/// `crates/check_calls/src/run.rt` has the same numbers.
+pub fn print_list(out: &mut impl Write, k: u32, seed: u32) -> Result {
+    for answer in lists::list(seed, k, &mut Counts::default()).answers {
+        let (machine, data) = (answer.machine, answer.data);
+        writeln!(
+            out,
+            "{:?}: {}, machine {machine:016x}, data {data:016x}",
+            answer.call, answer.number
+        )?;
+    }
+    Ok(())
 }

@@ -4,6 +4,7 @@ use super::chance::{self, draw};
 use super::counting::Counts;
 use super::{changes, programs, Sum};
 use crate::in_order;
+use crate::whole::sum::{sum_bytes, START};
 use crate::whole::Whole;
 
 /// A machine with the program and data that are lent to it, the run in order with its own data, and what was seen.
@@ -18,6 +19,16 @@ pub struct Run {
     want: Vec<u8>,
     pub counts: Counts,
     sum: Sum,
+    /// What was answered, call by call.
+    pub answers: Vec<Answer>,
+}
+
+/// A call, the number that it was answered by, and the sums over the machine and the data after it.
+pub struct Answer {
+    pub call: Call,
+    pub number: u8,
+    pub machine: u64,
+    pub data: u64,
 }
 
 #[derive(Clone, Copy, PartialEq, Eq)]
@@ -63,6 +74,7 @@ impl Run {
             data,
             counts,
             sum: Sum::start(),
+            answers: Vec::new(),
         }
     }
 
@@ -71,13 +83,20 @@ impl Run {
     }
 
     /// The number of an answer, the machine and the data after it, and the report.
-    fn sum(&mut self, number: u8, m: &Whole) {
+    fn sum(&mut self, call: Call, number: u8, m: &Whole) {
         let (registers, refusal) = m.report();
+        let (machine, data) = (m.checksum(), sum_bytes(START, &self.data));
         self.sum.add(number as u64);
-        self.sum.add(m.checksum());
-        self.sum.bytes(&self.data);
+        self.sum.add(machine);
+        self.sum.add(data);
         self.sum.add(refusal as u64);
         self.sum.words(&registers);
+        self.answers.push(Answer {
+            call,
+            number,
+            machine,
+            data,
+        });
     }
 
     fn step(&mut self) {
@@ -114,7 +133,7 @@ impl Run {
         let agrees = self.agrees();
         self.counts.expect_no_difference(kept && refused && agrees);
         let core = self.core;
-        self.sum(number, &core);
+        self.sum(call, number, &core);
     }
 
     fn call_damaged(&mut self, call: Call, k: u32) {
@@ -125,7 +144,7 @@ impl Run {
         let refused = number == 5 && damaged.report().1 == 5;
         self.counts
             .expect_no_difference(refused && after == damaged);
-        self.sum(number, &after);
+        self.sum(call, number, &after);
     }
 
     fn drain(&mut self) {
