@@ -13,7 +13,7 @@
 
 /* The version of this header and its library. The first number rises when a layout, a number or a function below changes:
    who calls has to look again. The second rises when one is added and those before stay; it falls to 0 with the first. */
-#define CIRNHOGUL_VERSION_MAJOR 1
+#define CIRNHOGUL_VERSION_MAJOR 2
 #define CIRNHOGUL_VERSION_MINOR 0
 
 #ifdef __cplusplus
@@ -67,7 +67,8 @@ enum cirnhogul_word {
     CIRNHOGUL_COUNT_COMMITTED = 2,  /* commits without a halt */
     CIRNHOGUL_COUNT_STEALS = 3,
     CIRNHOGUL_COUNT_DROPPED = 4,    /* entries dropped; the halting entry is not one */
-    CIRNHOGUL_RATE = 5,             /* committed * 1000 / accepted, a half rounded up; 0 if none accepted */
+    CIRNHOGUL_RATE = 5,             /* committed * 1000 / accepted to the nearest whole number, an exact half to
+                                       the even neighbour; 0 if none accepted */
     CIRNHOGUL_HALT = 6,             /* the halt cause, 0 none */
     CIRNHOGUL_NEXT = 7,             /* the next address */
     CIRNHOGUL_X1 = 8,               /* x1 to x31 are words 8 to 38 */

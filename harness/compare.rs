@@ -55,6 +55,8 @@ struct Tally {
     dropped: u64,
     with_drops: u64,
     committed: u64,
+    /// Replays whose rate is an exact half: with the even neighbour below, and above.
+    half_rates: [u64; 2],
     encoded: u64,
     not_encoded: u64,
 }
@@ -79,6 +81,9 @@ impl Tally {
         self.dropped += counts.dropped as u64;
         self.with_drops += (counts.dropped > 0) as u64;
         self.committed += counts.committed as u64;
+        if let Some(below) = below_a_half(counts) {
+            self.half_rates[below as usize % 2] += 1;
+        }
     }
 
     fn print(&self) {
@@ -98,6 +103,9 @@ impl Tally {
             println!("halts with cause {cause}: {}", self.halts[cause]);
         }
         println!("committed: {}", self.committed);
+        for (neighbour, count) in ["below", "above"].iter().zip(self.half_rates) {
+            println!("rates of an exact half, the even neighbour {neighbour}: {count}");
+        }
         println!("steals: {} in {} runs", self.steals, self.with_steals);
         println!(
             "dropped entries: {} in {} runs",
@@ -108,6 +116,13 @@ impl Tally {
             self.encoded, self.not_encoded
         );
     }
+}
+
+/// The whole number below the rate, where that is an exact half.
+fn below_a_half(counts: &Counts) -> Option<u64> {
+    let (dividend, divisor) = (counts.committed as u64 * 1_000, counts.answers[0] as u64);
+    let half = divisor > 0 && 2 * (dividend % divisor) == divisor;
+    half.then(|| dividend / divisor)
 }
 
 /// What differs in a case, if anything does.

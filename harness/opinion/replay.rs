@@ -1,6 +1,7 @@
 //! Replay: a schedule's events on a fresh machine, and the 39 words that tell what came of them.
 use crate::machine::Machine;
 use crate::schedule::{self, Event, Header};
+use std::cmp::Ordering;
 
 pub const RESULT: usize = 156;
 
@@ -41,11 +42,17 @@ pub fn call(machine: &mut Machine, program: &[u8], data: &mut [u8], event: Event
     }
 }
 
-/// Committed × 1000 ÷ accepted, a half rounded up; 0 if none was accepted.
-fn rate(committed: u32, accepted: u32) -> u32 {
-    match accepted {
-        0 => 0,
-        _ => (committed * 2_000 + accepted) / (2 * accepted),
+/// Committed × 1000 ÷ accepted, rounded to the nearest whole number, a half to the even one; 0 if none was accepted.
+fn rate(committed: u32, accepted: u32) -> u64 {
+    if accepted == 0 {
+        return 0;
+    }
+    let (dividend, divisor) = (committed as u64 * 1_000, accepted as u64);
+    let (quotient, remainder) = (dividend / divisor, dividend % divisor);
+    match (2 * remainder).cmp(&divisor) {
+        Ordering::Less => quotient,
+        Ordering::Greater => quotient + 1,
+        Ordering::Equal => quotient + quotient % 2,
     }
 }
 
@@ -57,7 +64,8 @@ fn write_result(machine: &Machine, counts: &Counts, result: &mut [u8]) {
         counts.committed,
         counts.steals,
         counts.dropped,
-        rate(counts.committed, accepted),
+        // at most 1000: a commit is an accepted call
+        rate(counts.committed, accepted) as u32,
         counts.halt as u32,
         machine.next(),
     ];

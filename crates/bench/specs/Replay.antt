@@ -8,7 +8,8 @@ use Rattle.ranges.specs.Sizes.{set_up_refusal}
 use Rattle.window.specs.Report.{report_of}
 use Rattle.formats.specs.Schedule.{head_refusal}
 use Rattle.formats.specs.Chain.{schedule_refusal}
-use Rattle.formats.specs.Result.{result_length, rate_of, result_bytes}
+use Rattle.formats.specs.Rate.{rate_of}
+use Rattle.formats.specs.Result.{result_length, result_bytes}
 use Rattle.events.specs.Counts.{Played, no_counts}
 use Rattle.events.specs.Play.{setup_in, played_of}
 use Rattle.bench.specs.declared.Replayed.{Replayed}

@@ -6,4 +6,5 @@ pub mod Events
 pub mod Unset
 pub mod Bound
 pub mod ResultLaws
+pub mod RateLaws
 pub mod Laws

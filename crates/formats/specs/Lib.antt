@@ -3,4 +3,5 @@ pub mod Schedule
 pub mod Kind
 pub mod Chain
 pub mod Result
+pub mod Rate
 pub mod Statement

@@ -1,6 +1,5 @@
 -- "Result, 39 words of 4 bytes, little endian".
-use Rattle.std.specs.Prelude.{ℕ, ◌+◌, ◌*◌, ◌/◌, ◌%◌, List, [], ◌∷◌, ◌++◌, eqb}
-use Rattle.isa.specs.Reads.{choose}
+use Rattle.std.specs.Prelude.{ℕ, ◌*◌, ◌/◌, ◌%◌, List, [], ◌∷◌, ◌++◌}
 
 abbrev pub result_words : ℕ
 result_words = 39
@@ -14,7 +13,3 @@ word_bytes w = w % 256 ∷ w / 256 % 256 ∷ w / 65_536 % 256 ∷ w / 16_777_216
 unfoldable pub result_bytes : List ℕ → List ℕ
 result_bytes [] = []
 result_bytes (word ∷ words) = word_bytes word ++ result_bytes words
-
--- "Rate is committed × 1000 ÷ accepted, a half rounded up; 0 if none accepted."
-abbrev pub rate_of : ℕ → ℕ → ℕ
-rate_of committed accepted = choose (eqb accepted 0) 0 ((2_000 * committed + accepted) / (2 * accepted))

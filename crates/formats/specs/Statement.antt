@@ -1,4 +1,4 @@
--- What replay cites of a schedule's chain.
+-- What holds of a schedule's chain.
 use Rattle.std.specs.Prelude.{ℕ, ◌+◌, ◌<◌, ◌≡◌, List, [], length}
 use Rattle.formats.specs.Schedule.{records, first_index}
 use Rattle.formats.specs.Chain.{chain_refusal, schedule_refusal, events_from, events_of}

@@ -4,11 +4,13 @@
 pub mod chain;
 pub mod kind;
 pub mod result;
+pub mod rounding;
 pub mod schedule;
 
 pub use chain::check_chain;
 pub use kind::Kind;
-pub use result::{RESULT_LENGTH, RESULT_WORDS, lay, rate};
+pub use result::{RESULT_LENGTH, RESULT_WORDS, lay};
+pub use rounding::rate;
 pub use schedule::{RECORD_LENGTH, check_head, first_index, record_at, registers_in, window_in};
 
 // One event of a schedule, and the index of the record after it.

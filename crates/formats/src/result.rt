@@ -1,6 +1,5 @@
-ghost use Rattle.std.specs.Prelude.{◌≡◌, ◌≤◌, length};
-ghost use Rattle.formats.specs.Result.{result_length, result_bytes, rate_of};
-ghost use Rattle.formats.specs.Schedule.{longest};
+ghost use Rattle.std.specs.Prelude.{◌≡◌, length};
+ghost use Rattle.formats.specs.Result.{result_length, result_bytes};
 
 pub const RESULT_WORDS: usize = 39;
 
@@ -12,15 +11,4 @@ pub fn lay(words: [u32; RESULT_WORDS], res: &mut [u8])
     ensures { res.new ≡ result_bytes words }
 {
     res.copy_from_slice(words.map(u32::to_le_bytes).as_flattened());
-}
-
-// committed in 1,000 accepted calls, rounded to the nearest. Inner: replay uses it.
-pub fn rate(committed: u32, accepted: u32) -> u32
-    requires { (committed ≤ longest) × (accepted ≤ longest) }
-    ensures { result ≡ rate_of committed accepted }
-{
-    if accepted == 0 {
-        return 0;
-    }
-    (2_000 * committed + accepted) / (2 * accepted)
 }

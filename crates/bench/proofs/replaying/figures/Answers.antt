@@ -1,7 +1,8 @@
-use Rattle.bench.proofs.FigureLaws.{counts_few}
+use Rattle.std.proofs.Common.{arith}
+use Rattle.bench.proofs.FigureLaws.{rate_small}
 use Rattle.bench.proofs.replaying.figures.Goals as goal
 
-pub rate-requires : goal.rate-requires
-rate-requires c =
+pub overflow_cast-result : goal.overflow_cast-result
+overflow_cast-result c =
     let a = c.args in
-    counts_few a.program.now a.«data».now a.schedule.now a.core c.requires _ _ _ c.play-counts.ensures
+    omega (arith, c.rate.ensures, rate_small a.program.now a.«data».now a.schedule.now _ _ _ c.play-counts.ensures)
