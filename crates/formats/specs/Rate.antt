@@ -44,17 +44,17 @@ pub record Row : Type 0 where
 abbrev pub row : ℕ → ℕ → ℕ → Row
 row committed accepted rate = record { committed = committed; accepted = accepted; rate = rate }
 
--- "One commit in 16 accepted calls … becomes 62; three in 16 remains 188": halves of an even and of an odd number, from 0 on; and a
--- third, less than a half and more
+-- of 62.5, 187.5, 0.5, 1.5, 333.3 and 666.7: "One commit in 16 accepted calls … becomes 62; three in 16 remains 188."
 abbrev pub table : List Row
 table = row 1 16 62 ∷ row 3 16 188 ∷ row 1 2_000 0 ∷ row 3 2_000 2 ∷ row 1 3 333 ∷ row 2 3 667 ∷ []
 
 pub record RateStatement : Type 0 where
   -- "0 if none accepted"
   pub none : (committed : ℕ) → rate_of committed 0 ≡ 0
+  -- the rate is committed × 1000 ÷ accepted, rounded
   pub rounded : (committed accepted : ℕ) → 0 < accepted → Rounded (committed * 1_000) accepted (rate_of committed accepted)
-  -- and no other number is so: the law settles the rate
+  -- and no other number is: that settles the rate
   pub settled : (committed accepted n : ℕ) → 0 < accepted → Rounded (committed * 1_000) accepted n → n ≡ rate_of committed accepted
-  -- where calls that are committed are accepted ones
+  -- calls that are committed are accepted
   pub at_most : (committed accepted : ℕ) → committed ≤ accepted → rate_of committed accepted ≤ 1_000
   pub worked : map (λ (r : Row). rate_of r.committed r.accepted) table ≡ map (λ (r : Row). r.rate) table
