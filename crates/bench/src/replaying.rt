@@ -43,6 +43,7 @@ fn figures(mut core: Core, program: &[u8], data: &mut [u8], schedule: &[u8]) -> 
     let registers = report.registers;
     Replayed {
         counts,
+        // at most 1,000, since calls that were committed were accepted
         rate: formats::rate(counts.committed, counts.accepted) as u32,
         halt: core.halt.cause.into(),
         next: core.next,

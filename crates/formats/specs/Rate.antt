@@ -55,6 +55,7 @@ pub record RateStatement : Type 0 where
   pub rounded : (committed accepted : ℕ) → 0 < accepted → Rounded (committed * 1_000) accepted (rate_of committed accepted)
   -- and no other number is: that settles the rate
   pub settled : (committed accepted n : ℕ) → 0 < accepted → Rounded (committed * 1_000) accepted n → n ≡ rate_of committed accepted
-  -- calls that are committed are accepted
+  -- of counts it is at most 1,000, since calls that were committed were accepted
   pub at_most : (committed accepted : ℕ) → committed ≤ accepted → rate_of committed accepted ≤ 1_000
+  -- computed of each row
   pub worked : map (λ (r : Row). rate_of r.committed r.accepted) table ≡ map (λ (r : Row). r.rate) table
