@@ -5,14 +5,21 @@ ghost use Rattle.execution.specs.Memory as Memory;
 use crate::{Action, actions};
 use isa::Instruction;
 
-// whether the access is aligned and stays within the memory's bytes. Inner: the step and the calls use it.
+// Whether the access is aligned and stays within the memory's bytes; the sizes that there are by constants, since a division
+// takes longer than the access. Inner: the step and the calls use it.
 #[tactic(auto, unfolding(crate::specs::Memory::accessible))]
 pub fn accessible(bytes: usize, address: u32, size: u8) -> bool
     ensures { result ≡ Memory.accessible bytes address size }
 {
     let at = address as usize;
     let width = size as usize;
-    at.is_multiple_of(width) & (at + width <= bytes)
+    let aligned = match size {
+        1 => true,
+        2 => at.is_multiple_of(2),
+        4 => at.is_multiple_of(4),
+        _ => at.is_multiple_of(width),
+    };
+    aligned & (at + width <= bytes)
 }
 
 // the address that a load or a store goes to

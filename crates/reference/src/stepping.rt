@@ -6,7 +6,7 @@ use execution::{Cause, Inputs, Stop, actions, executing, memory};
 use isa::Instruction;
 
 // one instruction on lent registers and data: the next address, or the cause of a stop, which leaves them.
-// The action is looked up once and handed on.
+// The action is looked up once, where it is first needed, and handed on: so a step has one jump for it (docs/SPEED.md).
 fn make(
     i: Instruction,
     data: &mut [u8],
@@ -15,11 +15,11 @@ fn make(
 ) -> Result<u32, Cause>
     ensures { Step.step_with i (Step.state registers.old address «data».old) ≡ Step.advanced result (Step.state registers.new address «data».new) }
 {
-    let action = actions::action(i.operation);
     let constant = word::to_word(i.constant);
     let first = registers::read(registers, operands::first_source(i));
     let operand = registers::read(registers, operands::second_source(i));
     let at = word::add(first, constant);
+    let action = actions::action(i.operation);
     let second = memory::second_by(action, data, at, operand);
     let given = Inputs {
         address,
