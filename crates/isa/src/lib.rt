@@ -8,13 +8,15 @@ pub mod listing;
 pub mod operation;
 pub mod placing;
 pub mod reader;
+pub mod table;
 
 pub use encoder::{accepts, encode};
 pub use listing::LAST;
 pub use reader::read;
 
 // The manual's formats. Shift: an I format whose constant is a shift amount, with bits 31–25 fixed. Whole: a word
-// without fields. What goes by formats is a match with an arm for each, so that the check names each that lacks a new one.
+// without fields. What goes by formats is a match with an arm for each, so that the check names each that lacks a new one, or a
+// static with an element for each.
 #[derive(Clone, Copy, Debug, PartialEq, Eq)]
 pub enum Format {
     R,

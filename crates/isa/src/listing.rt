@@ -6,6 +6,11 @@ use crate::Format;
 
 pub const LAST: u8 = 39;
 
+// "ECALL and EBREAK share an entry" of the table, which is ECALL's number
+pub const ECALL: u8 = 38;
+
+pub const EBREAK: u8 = 39;
+
 static LISTING: [(Format, u32); 40] = [
     (Format::Whole, 0x0), // 0 is no operation
     (Format::U, 0x37), // 1 LUI

@@ -1,6 +1,7 @@
 -- What tests say of the facts that they stand for.
 use mathlib.Core.Path.{◌≡◌, refl}
 use mathlib.Core.Bool.{Bool, true, false, not, ◌&&◌, ◌||◌}
+use mathlib.Core.Logic.{◌⊎◌, inl, inr}
 use Prim.Native.Nat.{ℕ}
 use native.Mathlib.Omega.{arith}
 use lib.Dec.{T}
@@ -19,6 +20,10 @@ and_right false b e = impossible e
 
 pub both : {a b : Bool} → a ≡ true → b ≡ true → a && b ≡ true
 both {a} {b} p q = rw (p, q)
+
+pub either : (a b : Bool) → a || b ≡ true → (a ≡ true) ⊎ (b ≡ true)
+either true b e = inl refl
+either false b e = inr e
 
 -- a test that holds wherever two others do
 pub where_both : (a b c : Bool) → (a ≡ true → b ≡ true → c ≡ true) → not (a && b) || c ≡ true
