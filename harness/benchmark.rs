@@ -6,7 +6,7 @@ mod markdown;
 mod qemu;
 mod timing;
 
-use figures::{at_four_places, nanoseconds, Best, Difference, BEST_OF};
+use figures::{at_four_places, nanoseconds, Best, BEST_OF};
 use markdown::Table;
 use std::fs;
 use std::os::unix::fs::PermissionsExt;
@@ -70,27 +70,27 @@ fn compared(name: &str, program: &[u8], data: &[u8]) -> (u64, Vec<u8>) {
 
 struct Times {
     reference: f64,
-    find: f64,
+    read: f64,
     plain: f64,
 }
 
 fn times(program: &[u8], data: &[u8]) -> Times {
     let words = words_read(program, data);
-    let rounds = SAMPLE * 65_535 / WORDS as u32;
-    let (mut reference, mut find, mut plain) = (Best::new(), Best::new(), Best::new());
+    let rounds = (SAMPLE * 65_535 / WORDS as u32) as u16;
+    let (mut reference, mut read, mut plain) = (Best::new(), Best::new(), Best::new());
     at_four_places(&mut || {
         let mut d = data.to_vec();
         for code in COPIES {
             d.copy_from_slice(data);
             reference.sample(|| code.run(program, &mut d, SAMPLE).steps);
-            find.sample_parts(rounds as u64 * WORDS as u64, || code.find(&words, rounds));
+            read.sample_parts(rounds as u64 * WORDS as u64, || code.read(&words, rounds));
         }
         d.copy_from_slice(data);
         plain.sample(|| plain_run(program, &mut d, SAMPLE).steps);
     });
     Times {
         reference: reference.0,
-        find: find.0,
+        read: read.0,
         plain: plain.0,
     }
 }
@@ -117,7 +117,7 @@ fn emulated(name: &str, q: &Qemu, file: &Path, steps: u64, left: &[u8]) -> f64 {
 fn print(title: &str, times: &Times, qemu: Option<(&str, f64)>) {
     let Times {
         reference,
-        find,
+        read,
         plain,
     } = *times;
     let table = Table([31, 8, 12, 12]);
@@ -131,22 +131,11 @@ fn print(title: &str, times: &Times, qemu: Option<(&str, f64)>) {
     };
     table.head(title, ["", "Msteps/s", "ns/step", "ratio"]);
     row("in-order run", reference);
-    let without = Difference::of(reference, find);
-    table.line([
-        "in-order run without the search",
-        "",
-        &without.text(1.0),
-        &without.text(plain),
-    ]);
+    row("reading a word alone", read);
     row("plain Rust interpreter", plain);
     if let Some((option, ns)) = qemu {
         row(&format!("qemu-riscv32 {option}"), ns);
     }
-    println!();
-    println!(
-        "The search for the operation takes {find:.1} ns, {:.0}% of the in-order run.",
-        100.0 * find / reference
-    );
 }
 
 fn measure(name: &str, program: &[u8], data: &[u8], room: &Path, qemu: Option<&Qemu>) {

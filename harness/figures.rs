@@ -50,22 +50,3 @@ pub fn at_four_places(work: &mut dyn FnMut()) {
         lower::<3_136>(work);
     }
 }
-
-/// A time less that of a part, which was timed by itself and may take a tenth more or less where it stands.
-pub struct Difference {
-    pub time: f64,
-    pub error: f64,
-}
-
-impl Difference {
-    pub fn of(whole: f64, part: f64) -> Difference {
-        Difference {
-            time: whole - part,
-            error: part / 10.0,
-        }
-    }
-
-    pub fn text(&self, unit: f64) -> String {
-        format!("{:.1} ± {:.1}", self.time / unit, self.error / unit)
-    }
-}

@@ -11,27 +11,27 @@ pub struct Timed {
 /// One copy.
 pub struct Code {
     run: unsafe extern "C" fn(*const u8, usize, *mut u8, usize, u32) -> Timed,
-    find: unsafe extern "C" fn(*const u32, usize, u32) -> u64,
+    read: unsafe extern "C" fn(*const u32, usize, u16) -> u64,
 }
 
 macro_rules! copies {
-    ($($run:ident $find:ident)*) => {
+    ($($run:ident $read:ident)*) => {
         extern "C" {
             $(
                 fn $run(program: *const u8, bytes: usize, data: *mut u8, length: usize, calls: u32) -> Timed;
-                fn $find(words: *const u32, count: usize, rounds: u32) -> u64;
+                fn $read(words: *const u32, count: usize, rounds: u16) -> u64;
             )*
         }
 
-        pub const COPIES: &[Code] = &[$(Code { run: $run, find: $find }),*];
+        pub const COPIES: &[Code] = &[$(Code { run: $run, read: $read }),*];
     };
 }
 
 copies! {
-    timing_run_at_16 timing_find_at_16
-    timing_run_at_32 timing_find_at_32
-    timing_run_at_48 timing_find_at_48
-    timing_run_at_64 timing_find_at_64
+    timing_run_at_16 timing_read_at_16
+    timing_run_at_32 timing_read_at_32
+    timing_run_at_48 timing_read_at_48
+    timing_run_at_64 timing_read_at_64
 }
 
 impl Code {
@@ -48,8 +48,8 @@ impl Code {
         }
     }
 
-    pub fn find(&self, words: &[u32], rounds: u32) -> u64 {
+    pub fn read(&self, words: &[u32], rounds: u16) -> u64 {
         // SAFETY: as above.
-        unsafe { (self.find)(words.as_ptr(), words.len(), rounds) }
+        unsafe { (self.read)(words.as_ptr(), words.len(), rounds) }
     }
 }

@@ -1,26 +1,30 @@
 -- The most that a round adds.
-use Prim.Native.Nat.{ℕ, zero, suc, ◌+◌, ◌≤◌}
-use mathlib.Core.Bool.{Bool, true, false}
+use Prim.Native.Nat.{ℕ, zero, suc, ◌*◌, ◌^◌, ◌≤◌}
+use mathlib.Core.Path.{◌≡◌, refl}
 use native.Mathlib.Omega.{arith}
+use Rattle.std.proofs.Common.{mod-lt, pow_pos}
 use lib.ListN.{length, get_or}
-use Rattle.std.specs.Prelude.{List, ◌*◌}
+use Rattle.std.specs.Prelude.{List}
 use Rattle.std.proofs.lemmas.List.Sums.{sum_by-le}
-use Rattle.isa.specs.Listing.{last}
-use Rattle.isa.specs.Reads.{choose, operation_from, operation_of}
-use Rattle.timing.specs.Timing.{operations}
+use Rattle.word.specs.Signed.{word_of}
+use Rattle.isa.specs.Listing.{format_of}
+use Rattle.isa.specs.Reads.{operation_of, fields_of}
+use Rattle.isa.proofs.ReadLaws.{read_none, read_some, legal_small}
+use Rattle.timing.specs.Timing.{weight, weights}
 
-either : (b : Bool) (x y most : ℕ) → x ≤ most → y ≤ most → choose b x y ≤ most
-either true x y most p q = p
-either false x y most p q = q
+-- more than a weight
+abbrev pub heaviest : ℕ
+heaviest = 2 ^ 33
 
-from : (n operation word : ℕ) → operation_from n operation word ≤ n + operation
-unfolding operation_from
-from zero operation word = omega arith
-from (suc n) operation word =
-    let rest : operation_from n (operation + 1) word ≤ suc n + operation = omega (arith, from n (operation + 1) word) in
-    let here : operation ≤ suc n + operation = omega arith in
-    either _ operation (operation_from n (operation + 1) word) (suc n + operation) here rest
+pub lighter : (w : ℕ) → weight w ≤ heaviest
+lighter w = by_operation (operation_of w) refl
+  where
+    by_operation : (operation : ℕ) → operation_of w ≡ operation → weight w ≤ heaviest
+    by_operation zero e = rw (read_none w e) (omega arith)
+    by_operation (suc n) e =
+        let p = read_some w (suc n) e (λ z. omega (arith, z)) in
+        let s = legal_small w (fields_of (format_of (suc n)) (suc n) w) p in
+        rw p (omega (arith, s.operation, s.rd, s.rs1, s.rs2, mod-lt (word_of (fields_of (format_of (suc n)) (suc n) w).constant) (pow_pos 32)))
 
-pub round_most : (words : List ℕ) → length words ≤ 4_096 → operations words ≤ 4_096 * (last + 1)
-unfolding operation_of
-round_most words h = omega (arith, sum_by-le operation_of (last + 1) words (λ k d l. from last 1 (get_or words k d)))
+pub round_most : (words : List ℕ) → length words ≤ 4_096 → weights words ≤ 4_096 * heaviest
+round_most words h = omega (arith, sum_by-le weight heaviest words (λ k d l. lighter (get_or words k d)))

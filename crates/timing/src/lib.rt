@@ -1,7 +1,7 @@
 // Exported for the benchmark of the in-order run, docs/SPEED.md, and for nothing else.
 #![tactic(auto)]
 
-ghost use Rattle.std.specs.Prelude.{◌≡◌, ◌≤◌, length};
+ghost use Rattle.std.specs.Prelude.{◌≡◌, ◌^◌, ◌≤◌, length};
 ghost use Rattle.timing.specs.Timing as Timing;
 
 use refusals::Refusal;
@@ -53,29 +53,37 @@ pub extern "C" fn timing_run(program: &[u8], data: &mut [u8], calls: u32) -> Tim
     }
 }
 
-// one round: the sum of the words' operation numbers
-fn operations(words: &[u32]) -> u64
-    requires { length words.now ≤ 4_096 }
-    ensures { result ≡ Timing.operations words.now }
+// what a word reads as, in one number
+#[tactic(auto, using(crate::proofs::Sums::lighter))]
+fn weight(word: u32) -> u64
+    ensures sum { result ≡ Timing.weight word }
+    ensures light { result ≤ 2 ^ 33 }
 {
-    words
-        .iter()
-        .map(|&word| isa::operation::find(word).unwrap_or(0) as u64)
-        .sum()
+    let i = isa::read(word).unwrap_or_default();
+    let fields = i.operation as u64 + i.rd as u64 + i.rs1 as u64 + i.rs2 as u64;
+    fields + word::to_word(i.constant) as u64
 }
 
-// The sum of the words' operation numbers, found anew in each of the rounds; 0 above 4,096 words.
+// one round
+fn weights(words: &[u32]) -> u64
+    requires { length words.now ≤ 4_096 }
+    ensures { result ≡ Timing.weights words.now }
+{
+    words.iter().map(|&word| weight(word)).sum()
+}
+
+// The sum of all that the words read as, read anew in each of the rounds; 0 above 4,096 words.
 #[unsafe(no_mangle)]
-#[tactic(auto, using(crate::proofs::Sums::round_most), unfolding(crate::specs::Timing::found_of))]
-pub extern "C" fn timing_find(words: &[u32], rounds: u32) -> u64
-    ensures { result ≡ Timing.found_of rounds words.now }
+#[tactic(auto, using(crate::proofs::Sums::round_most), unfolding(crate::specs::Timing::read_of_all))]
+pub extern "C" fn timing_read(words: &[u32], rounds: u16) -> u64
+    ensures { result ≡ Timing.read_of_all rounds words.now }
 {
     if 4_096 < words.len() {
         return 0;
     }
     let mut sum: u64 = 0;
     for _ in 0..rounds {
-        sum += operations(words);
+        sum += weights(words);
     }
     sum
 }
