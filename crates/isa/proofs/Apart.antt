@@ -10,11 +10,31 @@ use Rattle.word.proofs.FieldLaws.{below}
 use Rattle.laws.proofs.Bools.{impossible, both, where_both}
 use Rattle.laws.proofs.Table.{every, at}
 use mathlib.Core.List.{List, map}
-use Rattle.isa.specs.Listing.{Format, R, I, S, B, U, J, Shift, Whole, Row, listing, last, format_of, fixed_of, fixes_middle, fixes_upper}
+use Rattle.isa.specs.Listing.{Format, R, I, S, B, U, J, Shift, Whole, Row, listing, last, format_of, fixed_of}
 use Rattle.isa.specs.Reads.{choose, fixed_part, operation_from}
 use Rattle.isa.proofs.FieldsBack.{fixed_clean}
 
--- whether a format fixes all bits
+-- which bits beside the opcode a format fixes: bits 14–12, bits 31–25, all
+abbrev fixes_middle : Format → Bool
+fixes_middle R = true
+fixes_middle I = true
+fixes_middle S = true
+fixes_middle B = true
+fixes_middle U = false
+fixes_middle J = false
+fixes_middle Shift = true
+fixes_middle Whole = true
+
+abbrev fixes_upper : Format → Bool
+fixes_upper R = true
+fixes_upper I = false
+fixes_upper S = false
+fixes_upper B = false
+fixes_upper U = false
+fixes_upper J = false
+fixes_upper Shift = true
+fixes_upper Whole = true
+
 abbrev fixes_all : Format → Bool
 fixes_all R = false
 fixes_all I = false
@@ -26,11 +46,11 @@ fixes_all Shift = false
 fixes_all Whole = true
 
 -- a word has the fixed bits of its format
-pub record Has (F : Format) (fixed w : ℕ) : Type 0 where
-  pub opcode : field w 0 7 ≡ field fixed 0 7
-  pub middle : fixes_middle F ≡ true → field w 12 3 ≡ field fixed 12 3
-  pub upper : fixes_upper F ≡ true → field w 25 7 ≡ field fixed 25 7
-  pub all : fixes_all F ≡ true → w ≡ fixed
+record Has (F : Format) (fixed w : ℕ) : Type 0 where
+  opcode : field w 0 7 ≡ field fixed 0 7
+  middle : fixes_middle F ≡ true → field w 12 3 ≡ field fixed 12 3
+  upper : fixes_upper F ≡ true → field w 25 7 ≡ field fixed 25 7
+  all : fixes_all F ≡ true → w ≡ fixed
 
 three_parts : (a b c x y z : ℕ) → a < 128 → b < 8 → x < 128 → y < 8 → c * 2 ^ 25 + b * 2 ^ 12 + a ≡ z * 2 ^ 25 + y * 2 ^ 12 + x → (a ≡ x) × (b ≡ y) × (c ≡ z)
 three_parts a b c x y z ha hb hx hy e = (omega arith, omega arith, omega arith)
@@ -45,7 +65,7 @@ short fixed w e =
     let m = three_parts (field w 0 7) (field w 12 3) 0 (field fixed 0 7) (field fixed 12 3) 0 (below w 0 7) (below w 12 3) (below fixed 0 7) (below fixed 12 3) (omega arith) in
     (m.0, m.1)
 
-pub has : (F : Format) (fixed w : ℕ) → fixed_part F fixed ≡ fixed → fixed_part F w ≡ fixed → Has F fixed w
+has : (F : Format) (fixed w : ℕ) → fixed_part F fixed ≡ fixed → fixed_part F w ≡ fixed → Has F fixed w
 unfolding fixed_part
 has R fixed w c k = let m = long fixed w (k ∙ sym c) in record { opcode = m.0; middle = λ t. m.1; upper = λ t. m.2; all = impossible }
 has I fixed w c k = let m = short fixed w (k ∙ sym c) in record { opcode = m.0; middle = λ t. m.1; upper = impossible; all = impossible }

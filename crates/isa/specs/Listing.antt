@@ -1,6 +1,6 @@
 -- The manual's listing of RV32I without FENCE (volume I, chapter 24, "RV32/64G Instruction Set Listings"): a row for each operation, in its order.
 -- An operation's number is its place here.
-use Rattle.std.specs.Prelude.{List, [], ◌∷◌, ℕ, ◌+◌, ◌*◌, ◌^◌, Bool, true, false, get_or}
+use Rattle.std.specs.Prelude.{List, [], ◌∷◌, ℕ, ◌+◌, ◌*◌, ◌^◌, get_or}
 -- R, I, S, B, U and J are the manual's formats. Shift: an I format whose constant is a shift amount, with bits 31–25 fixed. Whole: a word without fields.
 pub use Rattle.isa.specs.declared.Format.{Format}
 pub use Rattle.isa.specs.declared.Format.TheVariants.{R, I, S, B, U, J, Shift, Whole}
@@ -72,24 +72,3 @@ format_of operation = (row_of operation).format
 
 abbrev pub fixed_of : ℕ → ℕ
 fixed_of operation = (row_of operation).fixed
-
--- which bits beside the opcode a format fixes: bits 14–12, bits 31–25
-abbrev pub fixes_middle : Format → Bool
-fixes_middle R = true
-fixes_middle I = true
-fixes_middle S = true
-fixes_middle B = true
-fixes_middle U = false
-fixes_middle J = false
-fixes_middle Shift = true
-fixes_middle Whole = true
-
-abbrev pub fixes_upper : Format → Bool
-fixes_upper R = true
-fixes_upper I = false
-fixes_upper S = false
-fixes_upper B = false
-fixes_upper U = false
-fixes_upper J = false
-fixes_upper Shift = true
-fixes_upper Whole = true
