@@ -31,16 +31,16 @@ covered index entry operation fixed = not (agrees operation index) || stands ent
 abbrev right : ℕ → ℕ → Bool
 right index entry = eqb entry (entry_of index) && (leb entry last && every (covered index entry) 0 fixed_bits)
 
-all_right : T (every right 0 OPERATIONS.now)
+all_right : T (every right 0 OPERATIONS)
 unfolding agrees entry_from entry_of fixed_part field
 all_right = tt
 
 module _ (index : ℕ) (h : index < 512) where
   abbrev entry : ℕ
-  entry = get_or OPERATIONS.now index 0
+  entry = get_or OPERATIONS index 0
 
   right_at : right index entry ≡ true
-  right_at = true_of _ (at right OPERATIONS.now all_right index h)
+  right_at = true_of _ (at right OPERATIONS all_right index h)
 
   pub entry_right : entry ≡ entry_of index
   entry_right = eqb-true _ _ (and_left _ _ right_at)
@@ -141,7 +141,7 @@ word_found w operation z e = search_found last 1 w operation z e
 
 -- the entry of a word, and what the comparisons of find say of it
 module _ (w e : ℕ) (k : e ≡ entry_of (index_of w)) where
-  is_entry : get_or OPERATIONS.now (index_of w) 0 ≡ e
+  is_entry : get_or OPERATIONS (index_of w) 0 ≡ e
   is_entry = entry_right (index_of w) (index_most w) ∙ sym k
 
   pub entry_most : e ≤ last

@@ -3,9 +3,9 @@ ghost use Rattle.std.specs.Prelude.{◌≡◌, ◌<◌};
 ghost use Rattle.isa.specs.Table.{entry_of, index_of};
 
 // "a fixed table of 512 entries indexed by those nine bits" (document 02), 0 where no operation's fixed bits agree. A line for bit
-// 30 and bits 14–12, in it a number for each value of bits 6–2. By reference: a `const` array is built anew wherever it is indexed.
+// 30 and bits 14–12, in it a number for each value of bits 6–2.
 #[rattlefmt::skip]
-const OPERATIONS: &[u8; 512] = &[
+const OPERATIONS: [u8; 512] = [
     11,  0,  0,  0, 19,  2,  0,  0, 16,  0,  0,  0, 28,  1,  0,  0,  0,  0,  0,  0,  0,  0,  0,  0,  5,  4,  0,  3, 38,  0,  0,  0, // 0, 0
     12,  0,  0,  0, 25,  2,  0,  0, 17,  0,  0,  0, 30,  1,  0,  0,  0,  0,  0,  0,  0,  0,  0,  0,  6,  0,  0,  3,  0,  0,  0,  0, // 0, 1
     13,  0,  0,  0, 20,  2,  0,  0, 18,  0,  0,  0, 31,  1,  0,  0,  0,  0,  0,  0,  0,  0,  0,  0,  0,  0,  0,  3,  0,  0,  0,  0, // 0, 2
