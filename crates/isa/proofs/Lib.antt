@@ -7,6 +7,7 @@ pub mod Accepted
 pub mod FieldsBack
 pub mod Masks
 pub mod Apart
+mod IndexLaws
 pub mod TableLaws
 pub mod Ranges
 pub mod RoundTrips
