@@ -23,7 +23,7 @@ use Rattle.window.specs.Drain.{idle}
 use Rattle.renaming.specs.declared.Core.{Core}
 use Rattle.renaming.specs.Answer.{Answer}
 use Rattle.agreement.proofs.Refusals.{is_zero}
-use Rattle.agreement.proofs.Tests.{by_choice}
+use Rattle.isa.proofs.ChoiceLaws.{by_choice}
 use Rattle.agreement.proofs.Turns.{At}
 use Rattle.agreement.proofs.Views.{drops_count}
 use Rattle.agreement.proofs.Oldest.{issued_at, completed_at}

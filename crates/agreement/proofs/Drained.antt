@@ -14,7 +14,7 @@ use Rattle.window.specs.Calls.{World, Made, make, needed_of}
 use Rattle.window.specs.declared.Call.{Call}
 use Rattle.agreement.specs.Lists.{own, make_event, make_all, accepted_commit, accepted_commits, started, origin, needed, CommitsWithin}
 use Rattle.agreement.specs.Drained.{Drained}
-use Rattle.agreement.proofs.Tests.{by_choice}
+use Rattle.isa.proofs.ChoiceLaws.{by_choice}
 use Rattle.agreement.proofs.Safe.{Reached, make_reached}
 use Rattle.agreement.proofs.Reaching.{list_reached, reached_lent}
 use Rattle.agreement.proofs.Onward.{needed_some, commits_within}

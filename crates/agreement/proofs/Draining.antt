@@ -23,7 +23,7 @@ use Rattle.window.specs.Drain.{Drain, idle, drain_ends, drain_from, drain_of}
 use Rattle.ranges.specs.declared.Setup.{Setup}
 use Rattle.renaming.specs.declared.Core.{Core}
 use Rattle.renaming.proofs.RefusalLaws.{in_range_lent}
-use Rattle.agreement.proofs.Tests.{by_choice}
+use Rattle.isa.proofs.ChoiceLaws.{by_choice}
 use Rattle.agreement.proofs.DrainSteps.{ahead, none_ahead, idle_empty, busy, Lower, needed_lowers}
 
 -- at most so many calls more

@@ -22,7 +22,7 @@ use Rattle.renaming.specs.Answer.{Answer}
 use Rattle.renaming.proofs.RefusalLaws.{lent_first}
 use Rattle.window.specs.Calls.{World, Made, made_by, call_of, make, needed_by, needed_of}
 use Rattle.agreement.specs.Drained.{Leads}
-use Rattle.agreement.proofs.Tests.{by_choice}
+use Rattle.isa.proofs.ChoiceLaws.{by_choice}
 
 -- where it is refused, machine and data are as they came
 module _ (memory : List ℕ) (m : Core) where

@@ -23,7 +23,7 @@ use Rattle.renaming.specs.declared.Core.{Core}
 use Rattle.renaming.proofs.DropLaws.{drop_count}
 use Rattle.renaming.proofs.ChangeLaws.{change_length}
 use Rattle.agreement.proofs.Turns.{At}
-use Rattle.agreement.proofs.Tests.{by_choice}
+use Rattle.isa.proofs.ChoiceLaws.{by_choice}
 use Rattle.agreement.proofs.Views.{drops_count}
 use Rattle.agreement.proofs.Learns.{changed_at}
 use Rattle.agreement.proofs.Steady.{steady_drops}

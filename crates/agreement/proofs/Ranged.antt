@@ -37,7 +37,8 @@ use Rattle.agreement.proofs.Ghost.{Ghost}
 use Rattle.agreement.proofs.Chains.{renaming_of, Renamed, last_names, execution_of, Status, waits, reads, done, stops, Executes}
 use Rattle.agreement.proofs.Contents.{ShownIn}
 use Rattle.agreement.proofs.Invariant.{Accounting, Invariant, Emptied}
-use Rattle.agreement.proofs.Tests.{equal, apart, eq?, by_choice}
+use Rattle.isa.proofs.ChoiceLaws.{by_choice}
+use Rattle.agreement.proofs.Tests.{equal, apart, eq?}
 use Rattle.agreement.proofs.Counting.{count_is}
 use Rattle.agreement.proofs.RegisterPools.{register_range}
 use Rattle.agreement.proofs.NamePools.{name_range}

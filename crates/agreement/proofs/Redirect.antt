@@ -14,7 +14,7 @@ use Rattle.agreement.proofs.View.{View, drops_to, placed, steer, redirect}
 use Rattle.agreement.proofs.Ghost.{Ghost, Agree}
 use Rattle.agreement.proofs.Chains.{Execution, execution_of, Executes, ExecutionChain, last_state}
 use Rattle.agreement.proofs.Invariant.{Accounting, Invariant}
-use Rattle.agreement.proofs.Tests.{by_choice}
+use Rattle.isa.proofs.ChoiceLaws.{by_choice}
 use Rattle.agreement.proofs.Walks.{state_at, executed_set, state_set, executed_take, executed_append, last_address}
 use Rattle.agreement.proofs.Placing.{placed_accounted, steer_accounted}
 use Rattle.agreement.proofs.Drop.{drops_accounted, drops_entries}

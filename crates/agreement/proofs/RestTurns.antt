@@ -16,7 +16,7 @@ use Rattle.renaming.specs.declared.Core.{Core}
 use Rattle.window.specs.Calls.{World, Made, made_by}
 use Rattle.window.specs.declared.Call.{Call}
 use Rattle.agreement.specs.Lists.{Event, make_all, call_in, make_event}
-use Rattle.agreement.proofs.Tests.{by_choice}
+use Rattle.isa.proofs.ChoiceLaws.{by_choice}
 use Rattle.agreement.proofs.Kept.{Kept, kept_place, kept_robbed, kept_learned}
 use Rattle.agreement.proofs.Turns.{Turn, refused, enters, issues, ends, settles, takes, steals, retires, halts, turn}
 use Rattle.agreement.proofs.Fits.{Fit, fit_turn}

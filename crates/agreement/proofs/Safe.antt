@@ -32,7 +32,7 @@ use Rattle.agreement.proofs.View.{view_of}
 use Rattle.agreement.proofs.Invariant.{Invariant, Emptied}
 use Rattle.agreement.proofs.Runs.{ran, run_on, run_ends}
 use Rattle.agreement.proofs.Turns.{Turn, refused, enters, issues, ends, settles, takes, steals, retires, halts, turn}
-use Rattle.agreement.proofs.Tests.{by_choice}
+use Rattle.isa.proofs.ChoiceLaws.{by_choice}
 use Rattle.agreement.proofs.Decodes.{decode_core_keeps, issue_core_keeps}
 use Rattle.agreement.proofs.Completes.{stop_core_keeps, settle_core_keeps, take_core_keeps, steal_core_keeps}
 use Rattle.agreement.proofs.Commits.{halted_emptied, halt_core_stops, retire_core_steps, retire_core_stores, retire_core_keeps}

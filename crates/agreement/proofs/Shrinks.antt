@@ -15,7 +15,7 @@ use Rattle.completing.specs.Complete.{outcome_at, none_free, register_for, suppl
 use Rattle.stealing.specs.Steal.{victim_of, robbed}
 use Rattle.renaming.specs.declared.Core.{Core}
 use Rattle.renaming.proofs.ChangeLaws.{change_length}
-use Rattle.agreement.proofs.Tests.{by_choice}
+use Rattle.isa.proofs.ChoiceLaws.{by_choice}
 
 pub record Shrinks (a b : Core) : Type 0 where
   pub count : b.count ≤ a.count

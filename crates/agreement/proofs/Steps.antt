@@ -23,9 +23,9 @@ use Rattle.execution.specs.Memory.{accessible, second_by, second_value, stored_b
 use Rattle.execution.specs.Execute.{stop, executed_by, executed, Outcome}
 use Rattle.execution.specs.Roles.{loads_by, loads, stores_by, stores, stop_by, stop_at_once}
 use Rattle.reference.specs.Fetch.{FetchNumbers, no_instruction, of_reading, outside, fetch_at}
-use Rattle.reference.specs.Step.{State, Step, first_source, second_source, destination, read_register, write_register, reached, stopped_at, settled, first_of, second_of, step_with, step_of}
+use Rattle.reference.specs.Step.{State, Step, used, first_source, second_source, destination, read_register, write_register, reached, stopped_at, settled, first_of, second_of, step_with, step_of}
 use Rattle.execution.specs.declared.Stop.{Stop}
-use Rattle.reference.proofs.StepLaws.{choose_either, step_registers}
+use Rattle.reference.proofs.StepLaws.{used_by, choose_either, step_registers}
 use Rattle.reference.proofs.Laws.{statement}
 use Rattle.decoding.specs.Decode.{entering_stop}
 use Rattle.agreement.proofs.Tests.{equal, apart, eq?, impossible}
@@ -51,6 +51,21 @@ pub fetched : (program : List ℕ) (address : ℕ) → Fetched (fetch_at program
 unfolding fetch_at
 fetched program address = choose_fetched (accessible (length program) address 4) _
 
+-- ECALL and EBREAK, and no instruction, name no register
+pub record Unnamed (i : Instruction) : Type 0 where
+  pub first : first_source i ≡ 0
+  pub second : second_source i ≡ 0
+  pub destination : destination i ≡ 0
+
+-- fields that are 0 name no register, whatever the operation
+zeros_unnamed : (i : Instruction) → i.rs1 ≡ 0 → i.rs2 ≡ 0 → i.rd ≡ 0 → Unnamed i
+zeros_unnamed i first second destination =
+    let none : (register : ℕ) → register ≡ 0 → used i register ≡ 0 = λ register z. used_by (λ (n : ℕ). n ≡ 0) i register refl z in
+    record { first = none i.rs1 first; second = none i.rs2 second; destination = none i.rd destination }
+
+none_unnamed : Unnamed none
+none_unnamed = zeros_unnamed none refl refl refl
+
 -- what is fetched names registers
 pub record Named (i : Instruction) : Type 0 where
   pub first : first_source i < 32
@@ -58,7 +73,9 @@ pub record Named (i : Instruction) : Type 0 where
   pub destination : destination i < 32
 
 none_named : Named none
-none_named = record { first = omega arith; second = omega arith; destination = omega arith }
+none_named =
+    let z = none_unnamed in
+    record { first = omega (arith, z.first); second = omega (arith, z.second); destination = omega (arith, z.destination) }
 
 pub fetched_named : (program : List ℕ) (address : ℕ) → Named (fetch_at program address).fields
 fetched_named program address = elim (fetched program address) [
@@ -66,15 +83,9 @@ fetched_named program address = elim (fetched program address) [
   | nothing f c e ↦ rw e none_named
 ]
 
--- ECALL and EBREAK, and no instruction, name no register
-pub record Unnamed (i : Instruction) : Type 0 where
-  pub first : first_source i ≡ 0
-  pub second : second_source i ≡ 0
-  pub destination : destination i ≡ 0
-
 whole_unnamed : (operation w : ℕ) → Unnamed (fields_of Whole operation w)
 unfolding fields_of
-whole_unnamed operation w = record { first = refl; second = refl; destination = refl }
+whole_unnamed operation w = zeros_unnamed (fields_of Whole operation w) refl refl refl
 
 abbrev is_whole : Format → Bool
 is_whole R = false
@@ -114,10 +125,10 @@ read_unnamed w i e z =
     rw (l.is, f) (whole_unnamed l.operation w)
 
 choose_unnamed : (b : Bool) (w : ℕ) → (entering_stop (choose b (of_reading (read_of w)) (no_instruction outside))).cause ≢ 0 → Unnamed (choose b (of_reading (read_of w)) (no_instruction outside)).fields
-choose_unnamed false w z = record { first = refl; second = refl; destination = refl }
+choose_unnamed false w z = none_unnamed
 choose_unnamed true w z = elim (read_fetched w) [
   | found f c ↦ read_unnamed w (read_of w).fields (ap (λ (n : ℕ). record { cause = n; fields = (read_of w).fields }) c) (rw f at z)
-  | nothing f c e ↦ rw e (record { first = refl; second = refl; destination = refl })
+  | nothing f c e ↦ rw e none_unnamed
 ]
 
 pub entering_unnamed : (program : List ℕ) (address : ℕ) → (entering_stop (fetch_at program address)).cause ≢ 0 → Unnamed (fetch_at program address).fields

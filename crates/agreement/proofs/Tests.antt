@@ -6,7 +6,6 @@ use mathlib.Core.Bool.{Bool, true, false}
 use native.Mathlib.Omega.{arith}
 use borrow.Author.Tests.{eqb-true, eqb-false}
 use lib.Dec.{eqb}
-use Rattle.isa.specs.Reads.{choose}
 
 pub data Eq? (a b : ℕ) : Type 0 where
   equal : a ≡ b → eqb a b ≡ true → Eq? a b
@@ -21,8 +20,3 @@ eq? a b = cases (eqb a b) refl
 
 pub impossible : {A : Type 0} → ◌≡◌ {A = ℕ} 0 1 → A
 impossible e = absurd (omega arith)
-
--- a choice has a property that both sides have
-pub by_choice : {A : Type 0} (q : A → Type 0) (b : Bool) (x y : A) → (b ≡ true → q x) → (b ≡ false → q y) → q (choose b x y)
-by_choice q true x y f g = f refl
-by_choice q false x y f g = g refl

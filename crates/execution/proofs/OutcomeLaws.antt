@@ -12,7 +12,7 @@ use Rattle.word.specs.Signed.{word_of}
 use Rattle.execution.proofs.CauseLaws.{cause_small}
 use Rattle.execution.specs.Causes.{cause_number}
 use Rattle.execution.specs.declared.Computation.{Computation}
-use Rattle.execution.specs.declared.Computation.TheVariants.{Upper, UpperAddress, Jump, JumpRegister, Branch, Immediate, Register}
+use Rattle.execution.specs.declared.Computation.TheVariants.{Upper, UpperAddress, Jump, JumpRegister, Branch, Immediate, Register, Fence}
 use Rattle.execution.specs.declared.Action.{Action}
 use Rattle.execution.specs.declared.Action.TheVariants.{Computes, LoadsSigned, LoadsUnsigned, Stores, Stops}
 use Rattle.execution.specs.Actions.{action_of}
@@ -47,6 +47,7 @@ proper_performed (Branch condition) address c first second =
     proper_choose address (holds condition first second) (jumps address 0 (sum address c)) (goes 0 (onward address)) (proper_jumps address 0 (sum address c)) (proper_goes address 0 (onward address))
 proper_performed (Immediate alu) address c first second = proper_goes address _ _
 proper_performed (Register alu) address c first second = proper_goes address _ _
+proper_performed Fence address c first second = proper_goes address _ _
 
 proper_access : (b : Bool) (address cause result : ℕ) → cause ≤ 7 → Proper address (choose b (goes result (onward address)) (stops address cause))
 proper_access b address cause result h =

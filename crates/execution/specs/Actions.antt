@@ -1,9 +1,9 @@
--- What each operation does: a row for each, in the order of the manual's listing.
+-- What each operation does: a row for each, in the order of the listing.
 use Rattle.std.specs.Prelude.{List, [], ◌∷◌, ℕ, get_or}
 use Rattle.execution.specs.declared.Alu.TheVariants.{Add, Sub, Sll, Slt, Sltu, Xor, Srl, Sra, Or, And}
 use Rattle.execution.specs.declared.Condition.TheVariants.{Eq, Ne, Lt, Ge, Ltu, Geu}
 use Rattle.execution.specs.declared.Cause.TheVariants.{Illegal, EnvironmentCall, Breakpoint}
-use Rattle.execution.specs.declared.Computation.TheVariants.{Upper, UpperAddress, Jump, JumpRegister, Branch, Immediate, Register}
+use Rattle.execution.specs.declared.Computation.TheVariants.{Upper, UpperAddress, Jump, JumpRegister, Branch, Immediate, Register, Fence}
 use Rattle.execution.specs.declared.Action.{Action}
 use Rattle.execution.specs.declared.Action.TheVariants.{Computes, LoadsSigned, LoadsUnsigned, Stores, Stops}
 
@@ -49,6 +49,7 @@ actions =
     ∷ Computes (Register And)  -- 37 AND
     ∷ Stops EnvironmentCall  -- 38 ECALL
     ∷ Stops Breakpoint  -- 39 EBREAK
+    ∷ Computes Fence  -- 40 FENCE
     ∷ []
 
 abbrev pub action_of : ℕ → Action

@@ -11,7 +11,7 @@ use Rattle.execution.specs.declared.Alu.TheVariants.{Add, Sub, Sll, Slt, Sltu, X
 use Rattle.execution.specs.declared.Condition.{Condition}
 use Rattle.execution.specs.declared.Condition.TheVariants.{Eq, Ne, Lt, Ge, Ltu, Geu}
 use Rattle.execution.specs.declared.Computation.{Computation}
-use Rattle.execution.specs.declared.Computation.TheVariants.{Upper, UpperAddress, Jump, JumpRegister, Branch, Immediate, Register}
+use Rattle.execution.specs.declared.Computation.TheVariants.{Upper, UpperAddress, Jump, JumpRegister, Branch, Immediate, Register, Fence}
 use Rattle.execution.specs.declared.Action.{Action}
 use Rattle.execution.specs.declared.Action.TheVariants.{Computes, LoadsSigned, LoadsUnsigned, Stores, Stops}
 use Rattle.execution.specs.Causes.{cause_number}
@@ -83,6 +83,7 @@ performed JumpRegister address c first second = jumps address (onward address) (
 performed (Branch condition) address c first second = choose (holds condition first second) (jumps address 0 (sum address c)) (goes 0 (onward address))
 performed (Immediate alu) address c first second = goes (compute alu first c) (onward address)
 performed (Register alu) address c first second = goes (compute alu first second) (onward address)
+performed Fence address c first second = goes 0 (onward address)
 
 -- a load's result is its second value; cause 6 load, 7 store
 unfoldable pub executed_by : Action → ℕ → ℕ → ℕ → ℕ → ℕ → Outcome

@@ -4,7 +4,7 @@ use Rattle.word.specs.Arithmetic.{sum}
 use Rattle.word.specs.Signed.{word_of}
 use Rattle.isa.specs.declared.Instruction.{Instruction}
 use Rattle.execution.specs.declared.Computation.{Computation}
-use Rattle.execution.specs.declared.Computation.TheVariants.{Upper, UpperAddress, Jump, JumpRegister, Branch, Immediate, Register}
+use Rattle.execution.specs.declared.Computation.TheVariants.{Upper, UpperAddress, Jump, JumpRegister, Branch, Immediate, Register, Fence}
 use Rattle.execution.specs.declared.Action.{Action}
 use Rattle.execution.specs.declared.Action.TheVariants.{Computes, LoadsSigned, LoadsUnsigned, Stores, Stops}
 use Rattle.execution.specs.Causes.{cause_number}
@@ -52,6 +52,7 @@ ahead_of JumpRegister address c guess = guess
 ahead_of (Branch condition) address c guess = guess
 ahead_of (Immediate alu) address c guess = onward address
 ahead_of (Register alu) address c guess = onward address
+ahead_of Fence address c guess = onward address
 
 unfoldable pub predicted_by : Action → ℕ → ℕ → ℕ → ℕ
 predicted_by (Computes computation) address c guess = ahead_of computation address c guess

@@ -6,8 +6,13 @@ use crate::Action;
 use crate::Action::{Computes, LoadsSigned, LoadsUnsigned, Stops, Stores};
 use crate::Alu::{Add, And, Or, Sll, Slt, Sltu, Sra, Srl, Sub, Xor};
 use crate::Cause::{Breakpoint, EnvironmentCall, Illegal};
-use crate::Computation::{Branch, Immediate, Jump, JumpRegister, Register, Upper, UpperAddress};
+use crate::Computation::{
+    Branch, Fence, Immediate, Jump, JumpRegister, Register, Upper, UpperAddress,
+};
 use crate::Condition::{Eq, Ge, Geu, Lt, Ltu, Ne};
+
+// from here on a number is no operation's
+const PAST_LAST: u8 = isa::LAST + 1;
 
 // What the operation does; a number that is none stops as an illegal word does. A match: a static would have the same rows, and
 // that a load's size is one that is read holds arm by arm. Inner: the step and the calls use it.
@@ -55,6 +60,7 @@ pub fn action(operation: u8) -> Action
         37 => Computes(Register(And)), // AND
         38 => Stops(EnvironmentCall), // ECALL
         39 => Stops(Breakpoint), // EBREAK
-        0 | 40.. => Stops(Illegal), // no operation
+        40 => Computes(Fence), // FENCE
+        0 | PAST_LAST.. => Stops(Illegal), // no operation
     }
 }

@@ -83,6 +83,7 @@ fn computes(computation: Computation, given: Inputs) -> Result<Executed, Cause>
         Computation::Register(function) => {
             arithmetic::compute(function, given.first, given.second)
         }
+        Computation::Fence => 0,
     };
     Ok(goes(value, next))
 }

@@ -41,7 +41,7 @@ pub enum Condition {
 }
 
 // Upper: the constant in bits 31–12; UpperAddress: that, added to the address. Immediate: the second operand is the
-// constant.
+// constant. Fence: nothing is computed, and the result is 0.
 #[derive(Clone, Copy, Debug, PartialEq, Eq)]
 pub enum Computation {
     Upper,
@@ -51,6 +51,7 @@ pub enum Computation {
     Branch(Condition),
     Immediate(Alu),
     Register(Alu),
+    Fence,
 }
 
 // What an operation does: a load or a store by its size in bytes, which is added to addresses, so that an enum of sizes would be

@@ -1,4 +1,5 @@
 -- Laws of the reader and the encoder.
+pub mod ChoiceLaws
 pub mod FormatLaws
 pub mod ReadLaws
 pub mod Parts

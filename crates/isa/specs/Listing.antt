@@ -1,5 +1,5 @@
--- The manual's listing of RV32I without FENCE (volume I, chapter 24, "RV32/64G Instruction Set Listings"): a row for each operation, in its order.
--- An operation's number is its place here.
+-- The manual's listing of RV32I (volume I, chapter 24, "RV32/64G Instruction Set Listings"): a row for each operation, in its order, FENCE
+-- last (document 02, wish 3). An operation's number is its place here.
 use Rattle.std.specs.Prelude.{List, [], ◌∷◌, ℕ, ◌+◌, ◌*◌, ◌^◌, get_or}
 -- R, I, S, B, U and J are the manual's formats. Shift: an I format whose constant is a shift amount, with bits 31–25 fixed. Whole: a word without fields.
 pub use Rattle.isa.specs.declared.Format.{Format}
@@ -59,10 +59,14 @@ listing =
     ∷ row R 0x00 7 0x33  -- 37 AND
     ∷ whole 0x0000_0073  -- 38 ECALL
     ∷ whole 0x0010_0073  -- 39 EBREAK
+    ∷ row I 0x00 0 0x0f  -- 40 FENCE: "any value in the other fields"
     ∷ []
 
+abbrev pub fence : ℕ
+fence = 40
+
 abbrev pub last : ℕ
-last = 39
+last = 40
 
 abbrev pub row_of : ℕ → Row
 row_of operation = get_or listing operation (whole 0)

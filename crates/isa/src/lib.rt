@@ -1,4 +1,4 @@
-// RV32I without FENCE: instruction words read and written.
+// RV32I: instruction words read and written.
 #![tactic(auto)]
 
 pub mod encoder;
@@ -11,7 +11,7 @@ pub mod reader;
 pub mod table;
 
 pub use encoder::{accepts, encode};
-pub use listing::LAST;
+pub use listing::{FENCE, LAST};
 pub use reader::read;
 
 // The manual's formats. Shift: an I format whose constant is a shift amount, with bits 31–25 fixed. Whole: a word
@@ -29,8 +29,8 @@ pub enum Format {
     Whole,
 }
 
-// Operation numbers are 1 to 39 in the order of the manual's listing; a field that the operation lacks is 0. The
-// default is operation 0 with zero fields.
+// Operation numbers are 1 to `LAST`, the places in `LISTING`; a field that the operation lacks is 0. The default is operation 0 with
+// zero fields.
 #[derive(Clone, Copy, Debug, PartialEq, Eq, Default)]
 pub struct Instruction {
     // a number and no enum: refusal 5 answers an operation that the encoder refuses, so a machine can hold one

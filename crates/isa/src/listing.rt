@@ -4,14 +4,16 @@ ghost use Rattle.isa.specs.Listing.{format_of, fixed_of};
 
 use crate::Format;
 
-pub const LAST: u8 = 39;
+pub const LAST: u8 = 40;
 
 // "ECALL and EBREAK share an entry" of the table, which is ECALL's number
 pub const ECALL: u8 = 38;
 
 pub const EBREAK: u8 = 39;
 
-static LISTING: [(Format, u32); 40] = [
+pub const FENCE: u8 = 40;
+
+static LISTING: [(Format, u32); LAST as usize + 1] = [
     (Format::Whole, 0x0), // 0 is no operation
     (Format::U, 0x37), // 1 LUI
     (Format::U, 0x17), // 2 AUIPC
@@ -52,6 +54,7 @@ static LISTING: [(Format, u32); 40] = [
     (Format::R, 0x7033), // 37 AND
     (Format::Whole, 0x73), // 38 ECALL
     (Format::Whole, 0x10_0073), // 39 EBREAK
+    (Format::I, 0xf), // 40 FENCE
 ];
 
 // the operation's row, and that of 0 above the last

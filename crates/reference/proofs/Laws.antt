@@ -1,21 +1,23 @@
 -- The statement on the in-order step and run.
-use Prim.Native.Nat.{ℕ}
+use Prim.Native.Nat.{ℕ, ◌<◌}
 use mathlib.Core.Path.{◌≡◌, refl}
 use mathlib.Core.List.{List}
+use native.Mathlib.Omega.{arith}
 use lib.Dec.{eqb}
 use lib.ListN.{length, get_or}
 use Rattle.isa.specs.declared.Instruction.{Instruction}
 use Rattle.execution.specs.Actions.{action_of}
-use Rattle.execution.specs.Memory.{effective, stored}
-use Rattle.execution.specs.Execute.{stop, executed, Outcome}
+use Rattle.execution.specs.Memory.{effective, second_by, stored_by, stored}
+use Rattle.isa.specs.Listing.{fence}
+use Rattle.execution.specs.Execute.{stop, onward, executed_by, executed, Outcome}
 use Rattle.reference.specs.Fetch.{fetch_at}
-use Rattle.reference.specs.Step.{State, Step, reached, destination, write_register, stopped_at, settled, first_of, second_of, step_with, step_of}
+use Rattle.reference.specs.Step.{State, Step, reached, used, destination, write_register, stopped_at, settled, first_of, second_of, step_with, step_of}
 use Rattle.reference.specs.Statement.{Statement}
 use Rattle.reference.proofs.FetchLaws.{fetched_small}
 use Rattle.execution.proofs.MemoryLaws as Memory
 use Rattle.execution.proofs.OutcomeLaws.{executed_proper}
 use Rattle.reference.proofs.RunLaws.{composed}
-use Rattle.reference.proofs.StepLaws.{choose_either, write_other, write_zero, step_kept}
+use Rattle.reference.proofs.StepLaws.{used_by, choose_either, write_other, write_zero, step_kept}
 
 -- a register that is not written, by what a made step writes
 register_kept : (s : State) (i : Instruction) (memory : List ℕ) (o : Outcome) (r : ℕ) → get_or (write_register s.registers (destination i) o.result) r 0 ≡ get_or s.registers r 0
@@ -51,6 +53,13 @@ step_length program s =
     let f = fetch_at program s.address in
     choose_either (λ (x : Step). length x.state.memory) f.found (step_with f.fields s) (stopped_at s f.stop) (length s.memory) (with_length f.fields s) refl
 
+fence_passes : (i : Instruction) (s : State) → i.operation ≡ fence → step_with i s ≡ reached s.registers (onward s.address) s.memory (stop 0)
+unfolding step_with used write_register second_by stored_by executed_by
+fence_passes i s e = rw e
+
+used_small : (i : Instruction) (register : ℕ) → register < 32 → used i register < 32
+used_small i register h = used_by (λ (n : ℕ). n < 32) i register (omega arith) h
+
 pub statement : Statement
 statement =
     record {
@@ -59,7 +68,11 @@ statement =
       stored_length = stored_length;
       step_length = step_length;
       stopped = step_kept;
+      fence_passes = fence_passes;
       cause_range = λ bytes i address first second. (executed_proper bytes i address first second).cause;
-      registers = λ program address e. let s = fetched_small program address e in (s.rs1, s.rs2, s.rd);
+      registers = λ program address e.
+          let i = (fetch_at program address).fields in
+          let s = fetched_small program address e in
+          (used_small i i.rs1 s.rs1, used_small i i.rs2 s.rs2, used_small i i.rd s.rd);
       composed = λ n m program s. composed m program n s;
     }

@@ -8,8 +8,10 @@ use borrow.Author.Tests.{eq-eqb, ne_eqb}
 use lib.Dec.{eqb}
 use lib.ListN.{length, get_or, set, length-set}
 use lib.Seq.{get_or-set_other}
+use Rattle.isa.specs.Listing.{fence}
 use Rattle.isa.specs.Reads.{choose}
 use Rattle.isa.specs.declared.Instruction.{Instruction}
+use Rattle.isa.proofs.ChoiceLaws.{by_choice}
 use Rattle.word.specs.Arithmetic.{sum}
 use Rattle.word.specs.Bytes.{byte_of}
 use Rattle.word.specs.Signed.{word_of}
@@ -18,13 +20,18 @@ use Rattle.execution.specs.Actions.{action_of}
 use Rattle.execution.specs.Memory.{second_by, stored_by, stored}
 use Rattle.execution.specs.Execute.{stop, executed_by, executed, Outcome}
 use Rattle.reference.specs.Fetch.{FetchNumbers, fetch_numbers, fetch_at}
-use Rattle.reference.specs.Step.{State, Step, reached, first_source, second_source, destination, read_register, write_register, stopped_at, settled, first_of, second_of, step_with, step_fetched, step_of, length_refusal, step_answer, stepped_of}
+use Rattle.reference.specs.Step.{State, Step, reached, used, first_source, second_source, destination, read_register, write_register, stopped_at, settled, first_of, second_of, step_with, step_fetched, step_of, length_refusal, step_answer, stepped_of}
 use Rattle.execution.specs.Causes.{cause_number}
 use Rattle.execution.specs.declared.Cause.{Cause}
 use Rattle.std.specs.Prelude.{Ok, Err}
 use Rattle.refusals.specs.Numbers.{number}
 use Rattle.refusals.proofs.Laws.{number_some}
 use Rattle.refusals.specs.declared.Refusal.{Refusal}
+
+-- what holds of 0 and of the register in a field holds of the register used
+pub used_by : (q : ℕ → Type 0) (i : Instruction) (register : ℕ) → q 0 → q register → q (used i register)
+unfolding used
+used_by q i register none some = by_choice q (eqb i.operation fence) 0 register (λ e. none) (λ e. some)
 
 module _ (s : State) (i : Instruction) (memory : List ℕ) (o : Outcome) where
   settled_made : o.stop.cause ≡ 0 → settled s i memory o ≡ reached (write_register s.registers (destination i) o.result) o.next memory (stop 0)

@@ -2,6 +2,7 @@
 use Rattle.std.specs.Prelude.{ℕ, ◌%◌, Bool, not, ◌&&◌, Option, None, Some, Result, Ok, Err, List, [], ◌∷◌, leb, eqb, length, get_or, set}
 use Rattle.refusals.specs.Numbers.{number}
 use Rattle.refusals.specs.declared.Refusal.{Refusal}
+use Rattle.isa.specs.Listing.{fence}
 use Rattle.isa.specs.Reads.{choose}
 use Rattle.isa.specs.declared.Instruction.{Instruction}
 use Rattle.execution.specs.Memory.{second_value, stored}
@@ -25,15 +26,19 @@ pub record Step : Type 0 where
 abbrev pub state : List ℕ → ℕ → List ℕ → State
 state registers address memory = record { registers = registers; address = address; memory = memory }
 
+-- the logical register in a field, 0 for none: FENCE keeps its fields and "has no operands and no destination"
+unfoldable pub used : Instruction → ℕ → ℕ
+used i register = choose (eqb i.operation fence) 0 register
+
 -- the logical registers that an instruction reads and writes, 0 for none
 abbrev pub first_source : Instruction → ℕ
-first_source i = i.rs1
+first_source i = used i i.rs1
 
 abbrev pub second_source : Instruction → ℕ
-second_source i = i.rs2
+second_source i = used i i.rs2
 
 abbrev pub destination : Instruction → ℕ
-destination i = i.rd
+destination i = used i i.rd
 
 -- "x0 reads 0; writing it is no destination"
 unfoldable pub read_register : List ℕ → ℕ → ℕ

@@ -15,7 +15,7 @@ use Rattle.committing.specs.Commit.{Commit, commit_refusal, committed, written_b
 use Rattle.window.specs.Calls.{World, Made, made_by, make}
 use Rattle.window.specs.declared.Call.{Call}
 use Rattle.window.specs.declared.Call.TheVariants.{Decode as decode, Issue as issue, Complete as complete, Commit as commit}
-use Rattle.agreement.proofs.Tests.{by_choice}
+use Rattle.isa.proofs.ChoiceLaws.{by_choice}
 
 module _ (w : World) where
   abbrev Stays : Made → Type 0

@@ -12,7 +12,7 @@ use Rattle.execution.specs.Memory.{accessible, second_by, stored_by, ends_within
 use Rattle.execution.specs.Execute.{executed_by}
 use Rattle.reference.specs.Fetch.{fetch_at}
 use Rattle.execution.specs.Roles.{loads_by, stores_by, stop_by, predicted_by}
-use Rattle.reference.specs.Step.{read_register, write_register, step_with, first}
+use Rattle.reference.specs.Step.{used, read_register, write_register, step_with, first}
 use Rattle.tables.specs.Table.{look_under, store_under}
 use Rattle.renaming.specs.Core.{tabulate_from}
 use Rattle.renaming.specs.SetUp.{rising_link, set_up_of}
@@ -37,7 +37,7 @@ use Rattle.worked.proofs.ClaimLaws.{says}
 
 -- computed from the definitions
 pub passes : check ≡ true
-unfolding field extend number put fixed_part operation_from operation_of constant_of fields_of read_of within accepted constant_part word_of accessible second_by stored_by ends_within_by executed_by fetch_at loads_by stores_by stop_by predicted_by read_register write_register step_with first look_under store_under tabulate_from rising_link set_up_refusal set_up_of every_from entry_in_range tables_within machine_in_range change_first lent_refusal decode_refusal enter decode_of store_below issue_refusal issued issue_of victim_among complete_refusal robbed learned redirected complete_of commit_refusal move_down retired commit_of make make_event make_all same_list answers_from test every
+unfolding field extend number put fixed_part operation_from operation_of constant_of fields_of read_of within accepted constant_part word_of accessible second_by stored_by ends_within_by executed_by fetch_at loads_by stores_by stop_by predicted_by used read_register write_register step_with first look_under store_under tabulate_from rising_link set_up_refusal set_up_of every_from entry_in_range tables_within machine_in_range change_first lent_refusal decode_refusal enter decode_of store_below issue_refusal issued issue_of victim_among complete_refusal robbed learned redirected complete_of commit_refusal move_down retired commit_of make make_event make_all same_list answers_from test every
 passes = refl
 
 -- what passes at every row passes at each
