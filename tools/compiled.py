@@ -23,7 +23,9 @@ TOOL = "riscv64-unknown-elf-"
 PLACES = (0x10000, 0x14000)                     # where the code is put in QEMU
 MEMORY = 0x18000
 ROOM, DATA = 1024, 4096                         # bytes of program and of data in a record
-ANSWERS = {"sort": 1, "crc": 0xCBF43926, "matrix": 4936066, "search": 1410, "sieve": 168997, "fibonacci": 610}
+ANSWERS = {"sort": 1, "crc": 0xCBF43926, "matrix": 4936066, "search": 1410, "sieve": 168997, "fibonacci": 610,
+           "ring": 671650, "lock": 40040}
+FENCED = ("ring", "lock")                       # the ones whose code has FENCEs
 LEVELS = ("-O1", "-O2")
 
 # Addresses of code come from the program counter alone, so no tables of jumps; and nothing is taken from a C library.
@@ -50,6 +52,11 @@ def section(linked, name):
         return file.read()
 
 
+def fences(code):
+    """How many FENCEs the code has: opcode 0x0F with bits 14-12 zero."""
+    return sum(word & 0x707F == 0x0F for word, in struct.iter_unpack("<I", code))
+
+
 def run(machine, code, place, data):
     """What is left at the ECALL: registers, address in the program, steps, data."""
     machine.write(0, data)
@@ -68,9 +75,9 @@ def record(machine, name, level):
     ends = [run(machine, code, place, start) for place in PLACES]
     assert ends[0] == ends[1]
     registers, address, steps, final = ends[0]
-    assert registers[10] == ANSWERS[name]
-    print("%-9s %s  program %4d, data %4d, steps %6d, answer %08x"
-          % (name, level, len(code), len(data), steps, registers[10]))
+    assert registers[10] == ANSWERS[name] and (fences(code) > 0) == (name in FENCED)
+    print("%-9s %s  program %4d, data %4d, FENCEs %d, steps %6d, answer %08x"
+          % (name, level, len(code), len(data), fences(code), steps, registers[10]))
     numbers = struct.pack("<36I", len(code), address, steps, STOP[CALL], *registers)
     return numbers + code.ljust(ROOM, b"\0") + start + final
 

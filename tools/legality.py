@@ -2,8 +2,9 @@
 """legality.py OUT: for every value of bits 31-25, 14-12 and 6-0 whether QEMU, as an RV32IM core, runs such a word.
 
 131,072 bits in 16,384 bytes: bit i % 8 of byte i // 8 stands for i = (bits 31-25) * 1024 + (bits 14-12) * 128 + (bits
-6-0). The other bits say rd 1, rs1 2, rs2 3. FENCE and the M extension are legal here. Opcode 0x73 is not asked and has
-zeros: its words could change the trap registers, and none with these registers is one of document 01's two.
+6-0). The other bits say rd 1, rs1 2, rs2 3. FENCE and the M extension are legal here; a test takes the latter as illegal
+until it comes. Opcode 0x73 is not asked and has zeros: its words could change the trap registers, and
+none with these registers is one of document 01's two.
 """
 import sys
 from collections import Counter

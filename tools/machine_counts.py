@@ -5,7 +5,7 @@ from itertools import product
 from typing import NamedTuple
 
 WINDOWS, REGISTERS = (1, 2, 63, 64), (32, 33, 94, 95)
-OPERATIONS = 39
+OPERATIONS = 40
 STATES = 3                      # waiting, issued, completed
 MOST = 2 ** 32 - 1
 

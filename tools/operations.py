@@ -1,7 +1,8 @@
 """The operations by their numbers, the fields that each has, and how assembly text shows them.
 
-Document 01 has 1 to 39, in the order of the manual's listing without FENCE; document 02 has 40, FENCE, and 41 to 48, the
-M extension. Where a field stands in a word is not said here: words come from assemblers, and fields from disassemblers.
+Document 01 has 1 to 39, in the order of the manual's listing without FENCE, and document 02 adds 40, FENCE. 41 to 48, the
+M extension, come later. Where a field stands in a word is not said here: words come from assemblers, and fields from
+disassemblers.
 """
 import re
 from typing import NamedTuple

@@ -1,8 +1,9 @@
 #!/usr/bin/env python3
-"""own_steps.py OUT LISTING: steps and runs that QEMU is no witness for, with what document 01 says of them.
+"""own_steps.py OUT LISTING: steps and runs that QEMU is no witness for, with what the documents say of them.
 
-Each vector names the sentence of document 01 that settles it. What comes out is written here vector by vector; no model
-computes it. The words are GNU's assembler's. LISTING is a text that has each vector under its sentence.
+Each vector names the sentence of document 01, or of document 02's request 3, that settles it. What comes out is written
+here vector by vector; no model computes it. The words are GNU's assembler's. LISTING is a text that has each vector
+under its sentence.
 
 A record has 348 bytes, words little endian:
   program length, program place, data length, data place, address, call (0 step, 1 run), n of the run (7 words)
@@ -17,6 +18,7 @@ import tempfile
 from typing import NamedTuple
 
 import toolchain
+from operations import FENCE, Instruction, text
 from steps import WORDS, scramble
 
 ROOM = 16
@@ -26,7 +28,7 @@ STORED = {5: 0xAABBCCDD}                        # what stores write
 
 # ---- document 01's sentences
 
-OTHER = "RV32I without FENCE: 39 instructions. Any other word is illegal."
+OTHER = "Any other word is illegal."
 SHIFT = "A shift by a constant needs bits 31–25 zero (SRAI: 0x20)."
 SYSTEM = "SYSTEM has only 0x00000073 (ECALL) and 0x00100073 (EBREAK)."
 WRAP = "In arithmetic, sums and address steps wrap at 2^32."
@@ -52,6 +54,13 @@ WORKED = {
     "g": "(g) 0x80000000 by 31: SRA 0xFFFFFFFF, SRL 1.", "h": "(h) 0xFFFFFFFF against 0: SLT 1, SLTU 0.",
     "i": "(i) JALR to 9 goes to 8; to 7, cause 5.",
     "j": "(j) 16 data bytes: LW at 12 reads, at 13 and 16 cause 6; LB at 15 reads."}
+
+# ---- document 02's, of request 3
+
+ACCEPTED = "Opcode 0x0F with bits 14–12 zero is accepted from now on, with any value in the other fields."
+ONWARD = "It has no operands and no destination, … and goes on at address + 4."
+FENCE_I = "FENCE.I stays illegal."
+ALIKE = "The in-order run changes alike: a committed prefix is measured against 40 instructions."
 
 
 # ---- a vector
@@ -273,11 +282,14 @@ def system():
 
 
 def other_words():
-    """FENCE, the extensions, compressed instructions, and shifts by a constant with other upper bits."""
+    """FENCE as assemblers write it, the extensions, compressed instructions, and shifts by a constant with other upper
+    bits."""
     for line in ("fence", "fence rw, w", "fence.tso"):
-        yield vector(OTHER, line, cause=1)
-    for word in (0x0000000F, 0x0100000F, 0x0FF0808F, 0x0000100F, 0x02208033, 0x0220C033, 0x100120AF, 0x0000A007,
-                 0x00010001, 0x00000012, 0x0000006B, 0xFFFFFFFF):
+        yield vector(ACCEPTED, line)
+    for word in (0x0000000F, 0x0100000F, 0x0FF0808F):
+        yield vector(ACCEPTED, ".word 0x%08x" % word)
+    yield vector(FENCE_I, ".word 0x0000100f", cause=1)
+    for word in (0x02208033, 0x0220C033, 0x100120AF, 0x0000A007, 0x00010001, 0x00000012, 0x0000006B, 0xFFFFFFFF):
         yield vector(OTHER, ".word 0x%08x" % word, cause=1)
     for name in ("slli", "srli", "srai"):
         yield vector(SHIFT, "%s x5, x6, 0" % name, given={6: 0x80000001}, changes={5: 0x80000001})
@@ -366,9 +378,75 @@ def runs():
     yield run(NOTHING, one, n=1, at=6, cause=4)
 
 
+def fence(rd=0, rs1=0, constant=0):
+    """The line of a FENCE with these fields; bits 31-20 are the constant's."""
+    return text(Instruction(FENCE, rd=rd, rs1=rs1, constant=constant))
+
+
+def fences():
+    """FENCE with fields of every kind, and words that differ from it in bits 14-12 or in the opcode."""
+    full = fence(31, 31, -1)
+    for constant in (*(2 ** k for k in range(11)), -2048):
+        yield vector(ACCEPTED, fence(constant=constant))
+    for fields in ((0, 0, -1), (31, 31, 0), (31, 0, 2047), (0, 31, -2048), (1, 2, 3), (2, 2, 2), (31, 31, -1)):
+        yield vector(ACCEPTED, fence(*fields))
+    for bits in range(1, 8):
+        for others in (0, 0xFFFF8F80):
+            yield vector(FENCE_I if bits == 1 else OTHER, ".word 0x%08x" % (others | bits << 12 | 0x0F), cause=1)
+    for opcode in (0x0C, 0x0D, 0x0E, 0x0B, 0x07, 0x1F, 0x2F, 0x4F):
+        yield vector(OTHER, ".word 0x%08x" % opcode, cause=1)
+    # the registers that its fields name stay, and so do the data
+    yield vector(ONWARD, full, given={31: 5})
+    yield vector(ONWARD, full, given={31: WORDS - 1})
+    yield vector(ONWARD, full, given={31: 2 ** 31})
+    yield vector(ONWARD, fence(5, 6, 7), given={5: 1, 6: 2, 7: 3})
+    yield vector(ONWARD, fence(5, 6, 13), given={5: 0xAABBCCDD, 6: 0})      # no access that leaves the data …
+    yield vector(ONWARD, fence(5, 6, 2), given={5: 0, 6: 1})                # … and no jump
+    yield vector(ONWARD, fence(1, 2, 8), data=b"")
+    yield vector(ONWARD, full, length=FULL)
+    # the next address, also past the program's end
+    yield vector(ONWARD, "fence", "ebreak", program_length=4)
+    yield vector(ONWARD, "ecall", full, at=4)
+    yield vector(ONWARD, "ecall", "ecall", "ecall", full, program_length=FULL, program_place=FULL - 16, at=FULL - 4)
+    yield run(FETCH, "fence", n=9, to=4, steps=1, cause=4)
+    yield run(FETCH, full, full, n=9, to=8, steps=2, cause=4)
+    yield run(FETCH, "ecall", "ecall", "ecall", full, program_length=FULL, program_place=FULL - 16, at=FULL - 4, n=2,
+              to=FULL, steps=1, cause=4)
+    for at in (1, 2, 3, 4, WORDS - 4):
+        yield vector(FETCH, "fence", at=at, cause=4)
+    # element 0
+    for fields in ((0, 0, 0), (0, 5, -1), (5, 0, 5), (31, 31, -1)):
+        yield vector(ELEMENT, fence(*fields), given={0: 0xDEADBEEF})
+    yield run(ELEMENT, fence(0, 0, 1), fence(5, 0, -1), "add x6, x0, x5", n=3, given={0: 0xDEADBEEF, 5: 9},
+              changes={6: 9}, to=12, steps=3)
+    yield vector(LENGTHS, "fence", program_length=5, refusal=3)
+    yield vector(LENGTHS, full, length=FULL + 1, refusal=4)
+
+
+def fence_runs():
+    """A FENCE is a step like others, wherever it stands."""
+    one, full = "addi x5, x5, 1", fence(5, 5, -1)
+    start = {5: 0}
+    yield run(ALIKE, full, n=0, given=start)
+    yield run(ALIKE, full, one, "ecall", n=1, given=start, to=4, steps=1)
+    yield run(ALIKE, full, one, "ecall", n=2, given=start, changes={5: 1}, to=8, steps=2)
+    yield run(ALIKE, one, full, one, "ecall", n=2, given=start, changes={5: 1}, to=8, steps=2)
+    yield run(ALIKE, one, full, one, "ecall", n=9, given=start, changes={5: 2}, to=12, steps=3, cause=2)
+    yield run(ALIKE, full, full, full, "ebreak", n=4, given=start, to=12, steps=3, cause=3)
+    yield run(ALIKE, full, "jal x0, .-4", n=65535, given=start, to=4, steps=65535)
+    yield run(ALIKE, full, one, "jal x0, .-8", n=65535, given=start, changes={5: 21845}, to=0, steps=65535)
+    yield run(ALIKE, "beq x0, x0, .+8", "ebreak", full, "ecall", n=9, given=start, to=12, steps=2, cause=2)
+    yield run(ALIKE, "fence", ".word 0x0000100f", n=9, to=4, steps=1, cause=1)
+    yield run(ALIKE, "fence", "lw x6, 13(x0)", n=9, to=4, steps=1, cause=6)
+    yield run(ALIKE, "sw x5, 4(x0)", fence(6, 5, 4), "lw x6, 4(x0)", "ecall", n=9, given=STORED,
+              changes={6: 0xAABBCCDD}, to=12, steps=3, cause=2, stored=put(4, b"\xdd\xcc\xbb\xaa"))
+    yield run(ALIKE, "lw x6, 4(x0)", fence(6, 5, 4), "sw x5, 4(x0)", "ecall", n=9, given=STORED,
+              changes={6: 0x7F7E7D7C}, to=12, steps=3, cause=2, stored=put(4, b"\xdd\xcc\xbb\xaa"))
+
+
 def vectors():
     for subject in (worked, misaligned, inside, leaving, full_data, fetch, spaces, first_register, system, other_words,
-                    targets, refusals, runs):
+                    targets, refusals, runs, fences, fence_runs):
         yield from subject()
 
 
@@ -416,7 +494,7 @@ def listing(chosen):
             lines += ["", v.sentence]
             sentence = v.sentence
         lines.append("  %3d  %s" % (number, described(v)))
-    title = "The vectors of own_steps.py, each under the sentence of document 01 that settles it."
+    title = "The vectors of own_steps.py, each under the sentence of document 01 or 02 that settles it."
     return "\n".join([title, *lines]) + "\n"
 
 

@@ -8,8 +8,10 @@ The data have 16,384 bytes: a copy of the program, these 256, and zeros. All reg
 
 A program sets some registers, then goes through a loop of blocks a few times, and ends by a stop; a block may also stop
 it earlier. Branches and jumps go forward to the start of a block, back at the end of a loop, or to a routine and from
-there back, so every program ends. Loads read the copy of the program and the 256 bytes, stores write the latter.
+there back, so every program ends. Loads read the copy of the program and the 256 bytes, stores write the latter. FENCEs
+with any fields stand between them and elsewhere.
 """
+import itertools
 import struct
 import sys
 from collections import Counter
@@ -17,7 +19,7 @@ from typing import NamedTuple
 
 import toolchain
 from chance import Chance
-from operations import FORMATS, NAMES, STORE, Instruction
+from operations import FENCE, FORMATS, NAMES, STORE, Instruction
 from qemu import SIZE, STOP, Machine
 from steps import LOADS, STORES, size_of
 
@@ -26,7 +28,7 @@ ROOM = 46                                       # words before the loop's end
 LOW, MIDDLE, HIGH = 256, 384, 512               # the data that stores write, and what x8 points to
 LINK, INNER, BASE, OUTER = 1, 7, 8, 9           # registers with a fixed use: return address, counters, data
 FREE = [r for r in range(1, 32) if r not in (LINK, INNER, BASE, OUTER)]
-ILLEGAL_WORDS = [0, 0xFFFFFFFF, 0x02109093, 0x0000707F, 0x04208033]
+ILLEGAL_WORDS = [0, 0xFFFFFFFF, 0x02109093, 0x0000707F, 0x04208033, 0x0000100F]    # the last is FENCE.I
 
 
 def numbered(*names):
@@ -85,6 +87,13 @@ class Writer:
         base, offset = self.chance.pick([(BASE, at - MIDDLE), (0, at)])
         return [Line(self.instruction(operation)._replace(rs1=base, constant=offset))]
 
+    def fence(self):
+        """FENCE with any fields; those that name registers often name ones that the program uses."""
+        return [Line(self.chance.pick([self.instruction, self.chance.instruction])(FENCE))]
+
+    def fenced(self):
+        return [*self.access(), *self.fence(), *self.access()]
+
     def branch(self, later):
         return [Line(self.instruction(self.chance.pick(BRANCHES)), to=later)]
 
@@ -101,7 +110,8 @@ class Writer:
         return [Line(Instruction(JAL, rd=LINK), to="routine")]
 
     def inner_loop(self):
-        kinds = [self.chance.pick([self.compute, self.access]) for _ in range(1 + self.chance.below(4))]
+        kinds = [self.chance.pick([*[self.compute, self.access] * 2, self.fence])
+                 for _ in range(1 + self.chance.below(4))]
         body = [line for kind in kinds for line in kind()]
         times = 1 + self.chance.below(6)
         back = Instruction(BNE, rs1=INNER, constant=-4 * (len(body) + 1))
@@ -130,10 +140,14 @@ class Writer:
 
     def block(self, later):
         kind = self.chance.below(100)
-        if kind < 42:
+        if kind < 37:
             return self.compute()
-        if kind < 70:
+        if kind < 60:
             return self.access()
+        if kind < 67:
+            return self.fenced()
+        if kind < 70:
+            return self.fence()
         if kind < 83:
             return self.branch(later)
         if kind < 87:
@@ -206,10 +220,21 @@ def run(machine, program, data):
     return after.registers, after.trap.address, steps, cause, after.memory
 
 
+def around_fences(operations):
+    """The operations before and after each FENCE."""
+    return [(a, b) for a, middle, b in zip(operations, operations[1:], operations[2:]) if middle == FENCE]
+
+
 def examine(programs, ends):
-    """Every operation stands in some program, and every cause ends some."""
-    used = Counter(line.instruction.operation for lines in programs for line in lines if line.word is None)
-    assert all(used[operation] >= 20 for operation in range(1, EBREAK + 1))
+    """Every operation stands in some program, FENCE in many and between loads and stores of every order, and every
+    cause ends some."""
+    used = [[line.instruction.operation if line.word is None else 0 for line in lines] for lines in programs]
+    counts = Counter(operation for operations in used for operation in operations)
+    assert all(counts[operation] >= 20 for operation in range(1, EBREAK + 1))
+    assert sum(FENCE in operations for operations in used) >= 20
+    around = [pair for operations in used for pair in around_fences(operations)]
+    for first, second in itertools.product((LOADS, STORES), repeat=2):
+        assert sum(a in first and b in second for a, b in around) >= 20
     causes = Counter(cause for _, cause in ends)
     assert all(causes[cause] >= 10 for cause in range(1, 8)), causes
     steps = sorted(steps for steps, _ in ends)

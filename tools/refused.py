@@ -2,7 +2,8 @@
 """refused.py SEED OUT: fields that the encoder has to refuse, each a legal instruction with one number changed.
 
 A record has 20 bytes, little endian: operation, rd, rs1, rs2 (4 each), constant (4, signed). The encoder answers each
-with refusal 30 and word 0. Operations 40 to 48, which come later, are left out, so that the file serves then too.
+with refusal 30 and word 0. Operations 41 to 48, which come later, are left out, so that the file serves then too. An
+operation that is added is drawn last: so the records that were there before stay, in their order.
 
 Who says that a number is out of range:
 - a constant out of its range, or odd where it must be even: LLVM's assembler, which refuses the text, and GNU's too,
@@ -10,18 +11,21 @@ Who says that a number is out of range:
 - a register above 31: both assemblers, which refuse the text;
 - a number in a field that the operation lacks, and an operation number out of range: no text can say such a thing, and
   it is document 01's own sentence ("a field that the operation lacks must be 0. It refuses any other number").
-For the first two both assemblers must also take the text of the unchanged instruction.
+For the first two both assemblers must also take the text of the unchanged instruction. FENCE is written as an I format
+with its opcode (see operations.py), since the text of the assemblers' own FENCE has no registers; it lacks rs2 alone.
 """
 import struct
 import sys
 
 import toolchain
 from chance import Chance
-from operations import BRANCH, FORMATS, J, NAMES, Instruction, text
+from operations import BRANCH, FENCE, FORMATS, J, NAMES, Instruction, text
 
-LAST = 39
+FIRST, ADDED = range(1, FENCE), [FENCE]         # operations, in the order of their draws
+LAST = ADDED[-1]
 LOWEST, HIGHEST = -2 ** 31, 2 ** 31 - 1
 NUMBERS = [0, 49, 255, 256, 257, 294, 295, 65537, 2 ** 31 + 1, 2 ** 32 - 1]         # no operation, now or later
+NEARLY = [256 + FENCE, 65536 + FENCE, 2 ** 31 + FENCE]                              # neither, with FENCE's low bits
 REGISTERS = [32, 33, 63, 255, 256, 288, 2 ** 31, 2 ** 32 - 1]
 NOT_ZERO = [1, 31, 32, 256, 2 ** 32 - 1]
 NOT_ZERO_CONSTANTS = [1, -1, 2, 31, 2048, 2 ** 20, HIGHEST, LOWEST]
@@ -37,9 +41,9 @@ def bad_constants(chance, allowed):
     return sorted({c for c in every if c not in allowed and LOWEST <= c <= HIGHEST})
 
 
-def out_of_range(chance):
+def out_of_range(chance, operations):
     """Pairs of a legal instruction and the same with one of its own fields out of range."""
-    for operation in range(1, LAST + 1):
+    for operation in operations:
         form = FORMATS[operation]
         if form.has_constant():
             for constant in bad_constants(chance, form.constants):
@@ -51,9 +55,9 @@ def out_of_range(chance):
                 yield legal, legal._replace(**{field: number})
 
 
-def lacking(chance):
+def lacking(chance, operations):
     """Instructions with a number in a field that the operation lacks."""
-    for operation in range(1, LAST + 1):
+    for operation in operations:
         form = FORMATS[operation]
         if not form.has_constant():
             for constant in NOT_ZERO_CONSTANTS:
@@ -64,11 +68,17 @@ def lacking(chance):
                     yield chance.instruction(operation)._replace(**{field: number})
 
 
-def no_operation(chance):
+def no_operation(chance, numbers, operations):
     """Operation numbers out of range, with zero fields, and with the fields of some operation."""
-    for number in NUMBERS:
+    for number in numbers:
         yield Instruction(number)
-        yield chance.instruction(1 + chance.below(LAST))._replace(operation=number)
+        yield chance.instruction(chance.pick(operations))._replace(operation=number)
+
+
+def drawn(chance, operations, numbers):
+    """The pairs that the assemblers are asked about, and what is refused by document 01's sentence."""
+    asked = list(out_of_range(chance, operations))
+    return asked, [*lacking(chance, operations), *no_operation(chance, numbers, operations)]
 
 
 def jumps(i):
@@ -89,10 +99,11 @@ def ask_assemblers(pairs):
 
 def main():
     chance, out = Chance(int(sys.argv[1])), sys.argv[2]
-    pairs = list(out_of_range(chance))
+    groups = [drawn(chance, FIRST, NUMBERS), drawn(chance, ADDED, NEARLY)]
+    pairs = [pair for asked, _ in groups for pair in asked]
+    own = [i for _, others in groups for i in others]
     gnu = ask_assemblers(pairs)
-    own = [*lacking(chance), *no_operation(chance)]
-    records = list(dict.fromkeys([bad for _, bad in pairs] + own))
+    records = list(dict.fromkeys(i for asked, others in groups for i in [*(bad for _, bad in asked), *others]))
     assert not {i.operation for i in records} & set(range(LAST + 1, len(NAMES)))
     with open(out, "wb") as file:
         for i in records:

@@ -1,5 +1,5 @@
 #!/usr/bin/env python3
-"""steps.py SEED OUT: single instructions of RV32I without FENCE, with what QEMU makes of them.
+"""steps.py SEED OUT: single instructions of RV32I, with what QEMU makes of them.
 
 A record has eight words of 4 bytes, little endian: word, address, a, b, next, what, where, value.
 
@@ -17,6 +17,8 @@ After it registers and data are as before and the address is `next`, except for 
 
 QEMU has one memory for program and data, so a load or store never meets the instruction's own word. Nor has it ever an
 address that is no multiple of its size: QEMU makes such accesses, document 01 does not. See own_steps.py for these.
+
+FENCE and the other words of its opcode are drawn last, so that a seed gives the same records of all else.
 """
 import struct
 import sys
@@ -25,16 +27,18 @@ from typing import NamedTuple
 
 import toolchain
 from chance import Chance
-from operations import BRANCH, EBREAK, ECALL, FORMATS, J, NAMES, STORE, Instruction
+from operations import BRANCH, EBREAK, ECALL, FENCE, FORMATS, J, NAMES, STORE, Instruction
 from qemu import ILLEGAL, SIZE, STOP, TRAP, Machine
 
-EACH = 285                                      # records of each operation from 1 to 37
+EACH = 285                                      # records of each operation from 1 to 37, and of FENCE
 CALLS, ILLEGALS, OUTSIDE = 20, 320, 95          # of ECALL and of EBREAK, of illegal words, of fetches outside memory
+NO_FENCES = 5                                   # of each other value of bits 14-12 under FENCE's opcode
 WORDS = 2 ** 32
 STRIDE = 2654435761                             # near the golden section of 2^32: its multiples look like anything
 JALR = NAMES.index("jalr")
 LOADS, STORES = range(NAMES.index("lb"), NAMES.index("sb")), range(NAMES.index("sb"), NAMES.index("addi"))
 MULTIPLY = range(NAMES.index("mul"), len(NAMES))
+FENCE_OPCODE = 0x0F
 EDGES = [0, 1, WORDS - 1, 0x7FFFFFFF, 0x80000000, 31, 32, 33]
 CORNERS = [-1, 0, 1, 31, 0x7FFFF, 0x80000]
 LENGTH_BITS = 3                                 # bits 1-0 are ones in every word that is not a compressed one
@@ -149,9 +153,29 @@ def trials_of(chance, operation):
     return edges + [plain(chance, operation, turn) for turn in range(EACH - len(edges))]
 
 
+def fences(chance):
+    """FENCE, whose fields name registers that it neither reads nor writes. The pairs of edge operands stand in those
+    that bits 19-15 and 24-20 name; bits 11-7 name the first of these, the second, or another."""
+    trials = trials_of(chance, FENCE)
+    for n in range(len(EDGES) ** 2):
+        i = trials[n].instruction
+        first, second = i.rs1, i.rs1 + 1
+        i = i._replace(rd=[first, second, second + 1][n % 3], constant=i.constant // 32 * 32 + second)
+        trials[n] = trials[n]._replace(instruction=i)
+    return trials
+
+
+def no_fences(chance):
+    """FENCE.I and the other words of FENCE's opcode that have a one in bits 14-12."""
+    found = [chance.word() & ~0x707F | bits << 12 | FENCE_OPCODE for bits in range(1, 8) for _ in range(NO_FENCES)]
+    with Machine(multiply=False) as machine:
+        assert all(is_illegal(machine, word) for word in found)
+    return found
+
+
 def illegal_words(chance):
-    """M's words, words with wrong fixed bits, and any others, if QEMU calls them illegal. FENCE and SYSTEM are left
-    out: QEMU runs more of them than document 01 has."""
+    """M's words, words with wrong fixed bits, and any others, if QEMU calls them illegal. SYSTEM is left out: QEMU runs
+    more of its words than document 01 has."""
     written = toolchain.gnu_words([chance.instruction(o) for o in (*range(1, ECALL), *MULTIPLY) for _ in range(20)])
     legal, multiply = written[:-20 * len(MULTIPLY)], written[-20 * len(MULTIPLY):]
     fixed = [*range(7), *range(12, 15), *range(25, 32)]
@@ -160,7 +184,7 @@ def illegal_words(chance):
     found = [*NEVER, *multiply[::4]]
     with Machine(multiply=False) as machine:
         for word in shuffled(chance, flipped + anything):
-            if word & 127 != 0x73 and word & 0x707F != 0x0F and word not in found and is_illegal(machine, word):
+            if word & 127 != 0x73 and word not in found and is_illegal(machine, word):
                 found.append(word)
     return found[:ILLEGALS]
 
@@ -183,6 +207,10 @@ def trials(chance):
     beyond = [SIZE, SIZE + 4, 2 ** 31, WORDS - 4]
     beyond += [SIZE + 4 * chance.below(chance.pick([SIZE, 2 ** 29])) for _ in range(OUTSIDE - len(beyond))]
     made += [no_instruction(chance, 0x13, at) for at in beyond]
+    added = fences(chance)
+    words = toolchain.gnu_words([t.instruction for t in added])
+    made += [t._replace(word=word) for t, word in zip(added, words)]
+    made += [no_instruction(chance, word, address(chance)) for word in no_fences(chance)]
     return shuffled(chance, made)
 
 
@@ -196,6 +224,11 @@ def shuffled(chance, items):
 
 
 # ---- what QEMU says
+
+def destination(instruction):
+    """FENCE has none, whatever its field says."""
+    return 0 if instruction.operation == FENCE else instruction.rd
+
 
 def registers(trial):
     x = [scramble(i) for i in range(32)]
@@ -235,8 +268,9 @@ class Witness:
         if place is not None:
             assert not changed
             return (*given, after.address, 64, place, struct.unpack("<I", after.memory)[0])
-        assert set(changed) <= {trial.instruction.rd}
-        return (*given, after.address, trial.instruction.rd, 0, after.registers[trial.instruction.rd])
+        rd = destination(trial.instruction)
+        assert set(changed) <= {rd}
+        return (*given, after.address, rd, 0, after.registers[rd])
 
     def value(self, trial, before, cause, value):
         """The value that comes with a cause. QEMU's own is cut for a word that begins as a compressed one, and stale
@@ -266,8 +300,9 @@ def store_place(trial, before):
 
 def examine(asked, records):
     """Nothing is missing: numbers of each operation, ends of constants, registers, edge operands, places, stops."""
-    for operation in range(1, ECALL):
+    for operation in (*range(1, ECALL), FENCE):
         examine_operation(operation, [(t, r) for t, r in zip(asked, records) if t.instruction.operation == operation])
+    examine_fences([(t, r) for t, r in zip(asked, records) if t.word & 127 == FENCE_OPCODE])
     stops = Counter(r[5] - 32 for r in records if 32 < r[5] < 64)
     assert all(stops[cause] >= CALLS for cause in range(1, 8)), stops
 
@@ -290,6 +325,19 @@ def examine_operation(operation, pairs):
     if operation in (*LOADS, *STORES):
         places = {(t.a + t.instruction.constant) % WORDS for t, _ in pairs}
         assert {0, SIZE - size_of(operation), SIZE} <= places
+
+
+def examine_fences(pairs):
+    """FENCE changes nothing and goes on, with all pairs of edge operands in the registers that bits 19-15 and 24-20
+    name, and each of them in the one that bits 11-7 name. Each other value of bits 14-12 stops with cause 1."""
+    legal = [(t, r) for t, r in pairs if t.instruction.operation == FENCE]
+    assert all(r[4:] == ((t.address + 4) % WORDS, 0, 0, 0) for t, r in legal)
+    named = [[registers(t)[t.word >> low & 31] for low in (15, 20, 7)] for t, _ in legal]
+    assert {(a, b) for a in EDGES for b in EDGES} <= {(a, b) for a, b, _ in named}
+    assert set(EDGES) <= {c for _, _, c in named}
+    stopped = Counter(t.word >> 12 & 7 for t, r in pairs if t.instruction.operation == 0 and r[5] == 32 + 1)
+    assert len(legal) + sum(stopped.values()) == len(pairs)
+    assert 0 not in stopped and all(stopped[bits] >= NO_FENCES for bits in range(1, 8))
 
 
 def report(records):

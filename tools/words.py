@@ -2,12 +2,12 @@
 """words.py SEED OUT: instruction words, with what GNU's and LLVM's tools and QEMU make of them.
 
 A record has 12 bytes, little endian: word (4), operation (1; 0 for an illegal word), rd, rs1, rs2 (1 each), constant
-(4, signed). The operation numbers are those of operations.py, FENCE (40) and the M extension (41 to 48) included,
-although document 01 has neither: a test for document 01 takes a record with an operation above 39 as an illegal word.
+(4, signed). The operation numbers are those of operations.py, the M extension (41 to 48) included, which is not legal
+yet: until it is, a test takes a record with an operation above 40 as an illegal word.
 
 Legal words are written by GNU's assembler from fields chosen here; LLVM's assembler must write the same, and both
 disassemblers must read the same fields back. Words that are close to legal ones come from changed bits. Every word is
-judged by both disassemblers and by QEMU, and they must agree, save where document 01 has a sentence of its own: see
+judged by both disassemblers and by QEMU, and they must agree, save where a document has a sentence of its own: see
 `judge`. Each word stands in the file once.
 """
 import itertools
@@ -135,7 +135,7 @@ def cause(after):
 
 
 def judge(word, gnu, llvm, trap, notes):
-    """The instruction that the word is, or None. Where a tool and document 01 differ, `notes` counts it."""
+    """The instruction that the word is, or None. Where a tool and a document differ, `notes` counts it."""
     if is_system(word):
         return judge_system(gnu, llvm, trap, notes)
     runs = trap != ILLEGAL
@@ -221,7 +221,7 @@ def report(records, notes):
     counts = Counter(i.operation if i else 0 for i in records.values())
     print(", ".join("%s %d" % (NAMES[operation], counts[operation]) for operation in sorted(counts)))
     for what in sorted(notes):
-        print("illegal by document 01: %d %s" % (notes[what], what))
+        print("illegal by the documents: %d %s" % (notes[what], what))
     print(len(records), "words")
 
 

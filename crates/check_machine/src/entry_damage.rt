@@ -87,7 +87,7 @@ fn illegal(t: &mut Trial, illegal: Instruction) {
 
 // Four operations that are none, six choices of fields.
 pub fn no_instruction(t: &mut Trial) {
-    for operation in [0, 40, 128, 255] {
+    for operation in [0, 41, 128, 255] {
         for instruction in fields(operation) {
             illegal(t, instruction);
         }

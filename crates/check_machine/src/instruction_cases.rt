@@ -98,8 +98,8 @@ const IMMEDIATE: Limits = Limits {
     ..STORE
 };
 
-// By the manual's listing without FENCE: from which operation to which the limits are these.
-pub const LISTING: [(u8, u8, Limits); 10] = [
+// By the manual's listing, FENCE last: from which operation to which the limits are these.
+pub const LISTING: [(u8, u8, Limits); 11] = [
     (1, 2, UPPER),
     (3, 3, JUMP),
     (4, 4, IMMEDIATE),
@@ -110,6 +110,7 @@ pub const LISTING: [(u8, u8, Limits); 10] = [
     (25, 27, SHIFT),
     (28, 37, REGISTERS),
     (38, 39, NO_FIELDS),
+    (40, 40, IMMEDIATE),
 ];
 
 impl Limits {

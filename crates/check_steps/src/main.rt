@@ -1,4 +1,4 @@
-// Single steps as QEMU makes them, and steps and runs as document 01 has them, compared with the in-order step and run.
+// Single steps as QEMU makes them, and steps and runs as the documents have them, compared with the in-order step and run.
 // The files and their layout: tools/steps.py and tools/own_steps.py.
 #![tactic(auto)]
 

@@ -1,4 +1,4 @@
-// Steps and runs as document 01 has them, where QEMU is no witness. A record has eleven words (program length and place,
+// Steps and runs as the documents have them, where QEMU is no witness. A record has eleven words (program length and place,
 // data length and place, address, call, n; address, steps, cause and refusal after it), 16 bytes each of program, of data
 // and of data after it from 44 on, and the registers before and after it from 92 and 220 on.
 use reference::{Ran, Stepped};

@@ -1,13 +1,13 @@
 // The operations that the reader and the encoder have, by their numbers.
 
-// From number 1 on. The files already hold FENCE (40) and the M extension (41 to 48), which document 01 does not have: today
-// a word of such an operation is tested as an illegal word, in words.bin and in legal.bin alike. When these operations come,
-// their names come here.
-pub const NAMES: [&str; 39] = [
+// From number 1 on. The files already hold the M extension (41 to 48), which is not legal yet: today a word of such an
+// operation is tested as an illegal word, in words.bin and in legal.bin alike. When these operations come, their names come
+// here.
+pub const NAMES: [&str; 40] = [
     "LUI", "AUIPC", "JAL", "JALR", "BEQ", "BNE", "BLT", "BGE", "BLTU", "BGEU", "LB", "LH", "LW",
     "LBU", "LHU", "SB", "SH", "SW", "ADDI", "SLTI", "SLTIU", "XORI", "ORI", "ANDI", "SLLI", "SRLI",
     "SRAI", "ADD", "SUB", "SLL", "SLT", "SLTU", "XOR", "SRL", "SRA", "OR", "AND", "ECALL",
-    "EBREAK",
+    "EBREAK", "FENCE",
 ];
 
 pub const LAST_OPERATION: usize = NAMES.len();

@@ -11,11 +11,9 @@ fn pattern(i: u32) -> u32 {
     i / 1024 % 128 << 25 | 3 << 20 | 2 << 15 | i / 128 % 8 << 12 | 1 << 7 | i % 128
 }
 
-// its operation where that is one of 40 to 48
+// its operation where that is one of 41 to 48, the M extension
 fn later(i: u32) -> Option<u32> {
-    if i % 1024 == 0x0f {
-        Some(40)
-    } else if i % 128 == 0x33 && i / 1024 % 128 == 1 {
+    if i % 128 == 0x33 && i / 1024 % 128 == 1 {
         Some(41 + i / 128 % 8)
     } else {
         None
