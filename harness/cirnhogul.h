@@ -13,7 +13,7 @@
 
 /* The version of this header and its library. The first number rises when a layout, a number or a function below changes:
    who calls has to look again. The second rises when one is added and those before stay; it falls to 0 with the first. */
-#define CIRNHOGUL_VERSION_MAJOR 2
+#define CIRNHOGUL_VERSION_MAJOR 3
 #define CIRNHOGUL_VERSION_MINOR 0
 
 #ifdef __cplusplus
@@ -116,14 +116,15 @@ static inline uint32_t cirnhogul_replay_taking_null(const uint8_t *program, size
 #define cirnhogul_replay cirnhogul_replay_taking_null
 
 /* The word of an instruction in the low 32 bits, and 0 or refusal 30 in the high 32 bits; the word is 0 at a refusal.
-   Operations, in the order of the manual's RV32I listing without FENCE:
+   Operations, in the order of the manual's RV32I listing, FENCE last:
         1 LUI     2 AUIPC   3 JAL     4 JALR    5 BEQ     6 BNE     7 BLT     8 BGE     9 BLTU   10 BGEU
        11 LB     12 LH     13 LW     14 LBU    15 LHU    16 SB     17 SH     18 SW     19 ADDI   20 SLTI
        21 SLTIU  22 XORI   23 ORI    24 ANDI   25 SLLI   26 SRLI   27 SRAI   28 ADD    29 SUB    30 SLL
-       31 SLT    32 SLTU   33 XOR    34 SRL    35 SRA    36 OR     37 AND    38 ECALL  39 EBREAK
+       31 SLT    32 SLTU   33 XOR    34 SRL    35 SRA    36 OR     37 AND    38 ECALL  39 EBREAK 40 FENCE
    A field that the operation lacks must be 0. Registers are 0 to 31. The constant of a branch (-4,096 to 4,094) and of JAL
    (-1,048,576 to 1,048,574) is the distance in bytes, even; that of a shift the amount (0 to 31); that of LUI and AUIPC bits 31
-   to 12 as a number from 0 (to 1,048,575). All other constants are -2,048 to 2,047. */
+   to 12 as a number from 0 (to 1,048,575). All other constants are -2,048 to 2,047; that of FENCE is its bits 31 to 20, and FENCE
+   may have any rd and rs1, which it neither writes nor reads. */
 uint64_t cirnhogul_encode(uint32_t operation, uint32_t rd, uint32_t rs1, uint32_t rs2, int32_t constant);
 
 #ifdef __cplusplus

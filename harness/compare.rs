@@ -5,6 +5,7 @@ mod cirnhogul;
 
 use opinion::cases::{self, Case, SORTS};
 use opinion::in_order;
+use opinion::machine::Fences;
 use opinion::random::Random;
 use opinion::replay::{self, Counts};
 use opinion::words;
@@ -54,6 +55,8 @@ struct Tally {
     with_steals: u64,
     dropped: u64,
     with_drops: u64,
+    /// Entries that held FENCE: issued, committed, dropped.
+    fences: [u64; 3],
     committed: u64,
     /// Replays whose rate is an exact half: with the even neighbour below, and above.
     half_rates: [u64; 2],
@@ -80,9 +83,17 @@ impl Tally {
         self.with_steals += (counts.steals > 0) as u64;
         self.dropped += counts.dropped as u64;
         self.with_drops += (counts.dropped > 0) as u64;
+        self.add_fences(counts.fences);
         self.committed += counts.committed as u64;
         if let Some(below) = below_a_half(counts) {
             self.half_rates[below as usize % 2] += 1;
+        }
+    }
+
+    fn add_fences(&mut self, fences: Fences) {
+        let counted = [fences.issued, fences.committed, fences.dropped];
+        for (all, one) in self.fences.iter_mut().zip(counted) {
+            *all += one as u64;
         }
     }
 
@@ -111,6 +122,8 @@ impl Tally {
             "dropped entries: {} in {} runs",
             self.dropped, self.with_drops
         );
+        let [issued, committed, dropped] = self.fences;
+        println!("FENCE: {issued} issued, {committed} committed, {dropped} dropped");
         println!(
             "encoder: {} words, {} refused by 30",
             self.encoded, self.not_encoded

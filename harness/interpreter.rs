@@ -1,4 +1,4 @@
-//! A plain interpreter of the same 39 instructions, written for the benchmark alone: it reads the word and does what
+//! A plain interpreter of the same 40 instructions, written for the benchmark alone: it reads the word and does what
 //! it says, with no table, no cache of read words and no unsafe code. Lengths, causes and refusals are document 01's.
 #![forbid(unsafe_code)]
 
@@ -167,6 +167,9 @@ fn step(program: &[u8], data: &mut [u8], x: &mut [u32; 32], address: u32) -> Res
         },
         0x73 if word == 0x0000_0073 => return Err(ECALL),
         0x73 if word == 0x0010_0073 => return Err(EBREAK),
+        // FENCE has no effect on one hart: the register that its field names gets what it has. An arm that returns takes a fifth more
+        // time in all others.
+        0x0f if funct3 == 0 => x[rd],
         _ => return Err(ILLEGAL),
     };
     if rd != 0 {

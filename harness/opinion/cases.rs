@@ -93,10 +93,27 @@ fn careless_constant(random: &mut Random, format: Format) -> i32 {
     }
 }
 
+/// An operation that goes on, with its format: any but ECALL and EBREAK, FENCE behind them too.
+fn going_on(random: &mut Random) -> (Operation, Format) {
+    let mut rows = LISTING
+        .iter()
+        .filter(|row| !matches!(row.0, Operation::Ecall | Operation::Ebreak));
+    let drawn = random.below(rows.clone().count());
+    let &(operation, format, _) = rows.nth(drawn).expect("one of those counted");
+    (operation, format)
+}
+
+/// Mostly one of the FENCEs that compilers write; now and then its fields stay as they were drawn.
+fn set_fence(random: &mut Random, instruction: &mut Instruction) {
+    if random.percent(60) {
+        (instruction.rd, instruction.rs1) = (0, 0);
+        instruction.constant = random.pick(&[0x0ff, 0x033, 0x031, 0x023]);
+    }
+}
+
 /// A legal word for the program's place `at`.
 fn legal_word(random: &mut Random, style: &Style, at: usize) -> u32 {
-    let row = random.below(LISTING.len() - 2);
-    let (operation, format, _) = LISTING[row];
+    let (operation, format) = going_on(random);
     let mut instruction = Instruction {
         operation,
         ..Instruction::default()
@@ -125,6 +142,9 @@ fn legal_word(random: &mut Random, style: &Style, at: usize) -> u32 {
         instruction.constant =
             (random.below(style.words.min(500) + 1) * 4 + random.below(2)) as i32;
     }
+    if operation == Operation::Fence {
+        set_fence(random, &mut instruction);
+    }
     word_of(&instruction)
 }
 
@@ -141,7 +161,7 @@ pub fn word_of(i: &Instruction) -> u32 {
     both as u32
 }
 
-/// A word that stops, or that is nearly one of the 39.
+/// A word that stops, or that is nearly a legal one.
 fn stopping_word(random: &mut Random, style: &Style, at: usize) -> u32 {
     match random.below(6) {
         0 | 1 => 0x0000_0073,
@@ -149,7 +169,7 @@ fn stopping_word(random: &mut Random, style: &Style, at: usize) -> u32 {
         3 => legal_word(random, style, at) ^ 1 << random.below(32),
         4 => random.pick(&[
             0,
-            0x0000_000f,
+            0x0000_100f,
             0x0210_9093,
             0x0200_0033,
             0x3020_0073,
@@ -230,7 +250,7 @@ fn guess(random: &mut Random, machine: &Machine, program: &[u8], right: usize) -
         0 => 0,
         _ => registers[register as usize - 1],
     };
-    let (a, b) = (value(instruction.rs1), value(instruction.rs2));
+    let [a, b] = instruction.sources().map(value);
     match words::execute(&instruction, address, a, b, 0) {
         Ok((_, next)) => next,
         Err(_) => address.wrapping_add(4),
@@ -521,9 +541,10 @@ fn random_bytes(random: &mut Random) -> Case {
 /// Numbers for the encoder: an operation, rd, rs1, rs2 and a constant, mostly near the edges of their ranges.
 pub fn fields(seed: u64) -> (u32, u32, u32, u32, i32) {
     let mut random = Random::new(seed);
+    let last = LISTING.len() as u32;
     let operation = match random.below(20) {
-        0 => random.pick(&[0, 40, 41, 255, 256, 295, u32::MAX]),
-        _ => random.within(1, 39) as u32,
+        0 => random.pick(&[0, last + 1, last + 2, 255, 256, 256 + last, u32::MAX]),
+        _ => random.within(1, LISTING.len()) as u32,
     };
     let format = match LISTING.get(operation.wrapping_sub(1) as usize) {
         Some(row) => row.1,

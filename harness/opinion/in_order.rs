@@ -9,17 +9,19 @@ pub(crate) fn step(
     address: u32,
 ) -> Result<u32, u8> {
     let instruction = words::fetch(program, address)?;
-    let a = registers[instruction.rs1 as usize];
+    let [left, right] = instruction.sources();
+    let a = registers[left as usize];
     let b = match instruction.is_load() {
         true => words::load(&instruction, a, data),
-        false => registers[instruction.rs2 as usize],
+        false => registers[right as usize],
     };
     let (result, next) = words::execute(&instruction, address, a, b, data.len())?;
     if instruction.is_store() {
         words::store(&instruction, a, b, data);
     }
-    if instruction.rd != 0 {
-        registers[instruction.rd as usize] = result;
+    let destination = instruction.destination();
+    if destination != 0 {
+        registers[destination as usize] = result;
     }
     Ok(next)
 }

@@ -92,6 +92,14 @@ struct Entry {
     cause: u8,
 }
 
+/// How many entries that hold FENCE were issued, committed and dropped, as all entries are counted.
+#[derive(Clone, Copy, Default)]
+pub struct Fences {
+    pub issued: u32,
+    pub committed: u32,
+    pub dropped: u32,
+}
+
 #[derive(Clone)]
 pub struct Machine {
     window: usize,
@@ -110,6 +118,7 @@ pub struct Machine {
     steals: u32,
     dropped: u32,
     committed: u32,
+    fences: Fences,
 }
 
 impl Machine {
@@ -141,6 +150,7 @@ impl Machine {
             steals: 0,
             dropped: 0,
             committed: 0,
+            fences: Fences::default(),
         }
     }
 
@@ -172,6 +182,10 @@ impl Machine {
     /// Commits without a halt.
     pub fn committed(&self) -> u32 {
         self.committed
+    }
+
+    pub fn fences(&self) -> Fences {
+        self.fences
     }
 
     /// The state, address and predicted next of an entry below the count.
@@ -215,10 +229,11 @@ impl Machine {
     /// The operands come from the general map before the destination takes its name there.
     fn rename(&mut self, entry: &mut Entry, instruction: Instruction, guess: u32) {
         entry.instruction = instruction;
-        entry.operands = [self.operand(instruction.rs1), self.operand(instruction.rs2)];
-        if instruction.rd != 0 {
+        entry.operands = instruction.sources().map(|logical| self.operand(logical));
+        let destination = instruction.destination();
+        if destination != 0 {
             entry.name = self.names.take();
-            let mapping = &mut self.general[instruction.rd as usize];
+            let mapping = &mut self.general[destination as usize];
             entry.previous = mapping.name;
             *mapping = Mapping {
                 name: entry.name,
@@ -263,6 +278,7 @@ impl Machine {
         }
         let entry = &mut self.entries[place];
         (entry.values, entry.state) = (values, State::Issued);
+        self.fences.issued += instruction.is_fence() as u32;
         0
     }
 
@@ -282,7 +298,8 @@ impl Machine {
         match words::execute(&entry.instruction, entry.address, a, b, data_length) {
             Err(cause) => (entry.state, entry.cause) = (State::Completed, cause),
             Ok((result, actual)) => {
-                if entry.instruction.rd != 0 && !self.give_register(position, result) {
+                let destination = entry.instruction.destination();
+                if destination != 0 && !self.give_register(position, result) {
                     return NO_REGISTER;
                 }
                 self.entries[place].state = State::Completed;
@@ -326,7 +343,7 @@ impl Machine {
     fn map(&mut self, position: usize, register: u8) {
         let entry = &self.entries[self.place(position)];
         let name = entry.name;
-        let mapping = &mut self.general[entry.instruction.rd as usize];
+        let mapping = &mut self.general[entry.instruction.destination() as usize];
         if mapping.name == name {
             mapping.register = register;
         }
@@ -352,6 +369,8 @@ impl Machine {
 
     fn drop_younger(&mut self, position: usize) {
         while self.count > position + 1 {
+            let youngest = &self.entries[self.place(self.count - 1)];
+            self.fences.dropped += youngest.instruction.is_fence() as u32;
             self.drop_youngest();
             self.dropped += 1;
         }
@@ -365,10 +384,11 @@ impl Machine {
             previous,
             ..
         } = self.entries[self.place(self.count)];
-        if instruction.rd != 0 {
+        let destination = instruction.destination();
+        if destination != 0 {
             self.free_name(name);
             let register = self.register_of[previous as usize];
-            self.general[instruction.rd as usize] = Mapping {
+            self.general[destination as usize] = Mapping {
                 name: previous,
                 register,
             };
@@ -407,6 +427,7 @@ impl Machine {
         self.oldest = self.place(1);
         self.count -= 1;
         self.committed += 1;
+        self.fences.committed += entry.instruction.is_fence() as u32;
         0
     }
 
@@ -415,7 +436,7 @@ impl Machine {
         let mut names = self.general.map(|mapping| mapping.name);
         for position in (0..self.count).rev() {
             let entry = &self.entries[self.place(position)];
-            names[entry.instruction.rd as usize] = entry.previous;
+            names[entry.instruction.destination() as usize] = entry.previous;
         }
         std::array::from_fn(|i| {
             let register = self.register_of[names[i + 1] as usize];

@@ -1,5 +1,5 @@
 //! Replay: a schedule's events on a fresh machine, and the 39 words that tell what came of them.
-use crate::machine::Machine;
+use crate::machine::{Fences, Machine};
 use crate::schedule::{self, Event, Header};
 use std::cmp::Ordering;
 
@@ -13,6 +13,7 @@ pub struct Counts {
     pub committed: u32,
     pub steals: u32,
     pub dropped: u32,
+    pub fences: Fences,
     pub halt: u8,
 }
 
@@ -95,6 +96,7 @@ pub fn counted(
     counts.committed = machine.committed();
     counts.steals = machine.steals();
     counts.dropped = machine.dropped();
+    counts.fences = machine.fences();
     counts.halt = machine.halt();
     write_result(&machine, &counts, result);
     Ok(counts)

@@ -1,6 +1,7 @@
-//! RV32I without FENCE: words read, words written, and what an instruction does with the values it read.
+//! RV32I: words read, words written, and what an instruction does with the values it read.
 
-/// In the order of the manual's listing, so that the number is the encoder's; 0 where there is no instruction.
+/// In the order of the manual's listing without FENCE, and FENCE behind it, so that the number is the encoder's; 0 where there is
+/// no instruction.
 #[derive(Clone, Copy, Default, PartialEq, Eq, Debug)]
 #[repr(u8)]
 pub enum Operation {
@@ -45,6 +46,7 @@ pub enum Operation {
     And,
     Ecall,
     Ebreak,
+    Fence,
 }
 use Operation::*;
 
@@ -70,7 +72,7 @@ pub const STORE: u8 = 7;
 
 /// Each operation's format and the bits that no field covers.
 #[rustfmt::skip]
-pub const LISTING: [(Operation, Format, u32); 39] = [
+pub const LISTING: [(Operation, Format, u32); 40] = [
     (Lui, Format::Upper, 0x37), (Auipc, Format::Upper, 0x17), (Jal, Format::Jump, 0x6f), (Jalr, Format::Immediate, 0x67),
     (Beq, Format::Branch, 0x63), (Bne, Format::Branch, 0x1063), (Blt, Format::Branch, 0x4063),
     (Bge, Format::Branch, 0x5063), (Bltu, Format::Branch, 0x6063), (Bgeu, Format::Branch, 0x7063),
@@ -84,6 +86,7 @@ pub const LISTING: [(Operation, Format, u32); 39] = [
     (Slt, Format::Register, 0x2033), (Sltu, Format::Register, 0x3033), (Xor, Format::Register, 0x4033),
     (Srl, Format::Register, 0x5033), (Sra, Format::Register, 0x4000_5033), (Or, Format::Register, 0x6033),
     (And, Format::Register, 0x7033), (Ecall, Format::System, 0x73), (Ebreak, Format::System, 0x0010_0073),
+    (Fence, Format::Immediate, 0x0f),
 ];
 
 /// Fields that the operation lacks are 0.
@@ -105,6 +108,27 @@ impl Instruction {
             rs2,
             constant,
         }
+    }
+
+    /// The registers that it reads, 0 for none. FENCE "has no operands and no destination": rd and rs1 stay in it only "so that the
+    /// same word is written back".
+    pub fn sources(&self) -> [u8; 2] {
+        match self.operation {
+            Fence => [0, 0],
+            _ => [self.rs1, self.rs2],
+        }
+    }
+
+    /// The register that it writes, 0 for none.
+    pub fn destination(&self) -> u8 {
+        match self.operation {
+            Fence => 0,
+            _ => self.rd,
+        }
+    }
+
+    pub fn is_fence(&self) -> bool {
+        self.operation == Fence
     }
 
     pub fn is_load(&self) -> bool {
@@ -209,6 +233,7 @@ pub fn read(word: u32) -> Instruction {
         0x67 if minor == 0 => made(Jalr, rd, rs1, 0, constant),
         0x63 => made(BRANCHES[minor as usize], 0, rs1, rs2, branch_constant(word)),
         0x03 => made(LOADS[minor as usize], rd, rs1, 0, constant),
+        0x0f if minor == 0 => made(Fence, rd, rs1, 0, constant),
         0x23 if minor < 4 => made(STORES[minor as usize], 0, rs1, rs2, store_constant(word)),
         0x13 => match immediate_operation(minor, top) {
             shift @ (Slli | Srli | Srai) => made(shift, rd, rs1, 0, rs2 as i32),
@@ -386,6 +411,7 @@ pub fn execute(
                 false => Err(STORE),
             }
         }
+        Fence => Ok((0, following)),
         // decode meets these three first; only in a machine that no call made can an entry wait with one of the last two
         Nothing => Err(ILLEGAL),
         Ecall => Err(ECALL),

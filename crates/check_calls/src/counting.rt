@@ -5,6 +5,14 @@ use std::io;
 use vectors::add;
 use window::Call;
 
+// What became of FENCEs.
+#[derive(Clone, Copy, Default)]
+pub struct Fences {
+    issued: u64,
+    committed: u64,
+    dropped: u64,
+}
+
 #[derive(Clone, Copy, Default)]
 pub struct Counts {
     pub lists: u64,
@@ -20,6 +28,7 @@ pub struct Counts {
     pub halts: [u64; 8],
     pub rounds: u64,
     pub drains: u64,
+    pub fences: Fences,
     pub differences: u64,
     pub violations: u64,
 }
@@ -31,6 +40,16 @@ fn is_steal(before: &Core, after: &Core, position: usize) -> bool {
             .entries
             .get(position)
             .is_some_and(|e| e.destination != 0 && e.stop.cause == 0)
+}
+
+// how many of the entries from one position to the one before another are FENCEs
+fn fences_among(m: &Core, from: usize, to: usize) -> u64 {
+    m.entries.get(from..to).map_or(0, |entries| {
+        entries
+            .iter()
+            .filter(|e| e.instruction.operation == isa::FENCE)
+            .count() as u64
+    })
 }
 
 impl Counts {
@@ -45,6 +64,8 @@ impl Counts {
     fn completed(&mut self, before: &Core, after: &Core, position: usize) {
         let gone = before.count.saturating_sub(after.count);
         add(&mut self.dropped, u64::from(gone));
+        let fences = fences_among(before, after.count as usize, before.count as usize);
+        add(&mut self.fences.dropped, fences);
         let wrong = gone != 0 || before.fetch != after.fetch;
         add(&mut self.wrong_predictions, u64::from(wrong));
         let stole = is_steal(before, after, position);
@@ -54,9 +75,12 @@ impl Counts {
     fn committed(&mut self, before: &Core, after: &Core) {
         if after.halt.cause == 0 {
             add(&mut self.commits, 1);
+            add(&mut self.fences.committed, fences_among(before, 0, 1));
         } else {
             vectors::count(&mut self.halts, after.halt.cause as usize);
             add(&mut self.dropped, u64::from(before.count.saturating_sub(1)));
+            let fences = fences_among(before, 1, before.count as usize);
+            add(&mut self.fences.dropped, fences);
         }
     }
 
@@ -70,7 +94,11 @@ impl Counts {
         let after = &answered.after;
         add(&mut self.accepted, 1);
         match call {
-            Call::Decode(_) | Call::Issue(_) => {}
+            Call::Decode(_) => {}
+            Call::Issue(position) => {
+                let end = position.saturating_add(1);
+                add(&mut self.fences.issued, fences_among(before, position, end));
+            }
             Call::Complete(position) => self.completed(before, after, position),
             Call::Commit => self.committed(before, after),
         }
@@ -92,6 +120,9 @@ impl Counts {
         }
         println!(rt; "rounds of further calls {}", self.rounds)?;
         println!(rt; "drains {}", self.drains)?;
+        println!(rt; "fences issued {}", self.fences.issued)?;
+        println!(rt; "fences committed {}", self.fences.committed)?;
+        println!(rt; "fences dropped {}", self.fences.dropped)?;
         println!(rt; "differences {}", self.differences)?;
         println!(rt; "violations {}", self.violations)
     }

@@ -69,7 +69,8 @@ pub fn first_issued(m: &Whole, start: u32) -> usize {
 fn target(program: &[u8], address: u32, registers: &[u32; 32]) -> u32 {
     match words::fetch(program, address) {
         Ok(i) if i.operation == words::Operation::Jalr => {
-            let to = registers[i.rs1 as usize].wrapping_add(i.constant as u32);
+            let [base, _] = i.sources();
+            let to = registers[base as usize].wrapping_add(i.constant as u32);
             to - to % 2
         }
         Ok(i) => address.wrapping_add(i.constant as u32),

@@ -1,6 +1,7 @@
 //! What was seen.
 use super::calls::Call;
-use crate::whole::Whole;
+use crate::whole::{Entry, Whole};
+use crate::words::Operation;
 use std::fmt::{Result, Write};
 
 #[derive(Clone, Copy, Default)]
@@ -16,6 +17,10 @@ pub struct Counts {
     halts: [u64; 8],
     pub rounds: u64,
     pub drains: u64,
+    /// Those that hold FENCE among the entries issued, committed and dropped.
+    fences_issued: u64,
+    fences_committed: u64,
+    fences_dropped: u64,
     pub differences: u64,
 }
 
@@ -23,6 +28,15 @@ pub struct Counts {
 fn is_steal(before: &Whole, after: &Whole, position: usize) -> bool {
     let entry = after.entries[position];
     before.free_registers.head == 0 && entry.destination != 0 && entry.cause == 0
+}
+
+fn holds_fence(entry: &Entry) -> bool {
+    entry.instruction.operation == Operation::Fence as u8
+}
+
+/// How many of these entries hold FENCE.
+fn fences(entries: &[Entry]) -> u64 {
+    entries.iter().filter(|entry| holds_fence(entry)).count() as u64
 }
 
 impl Counts {
@@ -33,6 +47,8 @@ impl Counts {
     fn completed(&mut self, before: &Whole, after: &Whole, position: usize) {
         let gone = before.count - after.count;
         self.dropped += gone as u64;
+        let dropped = &before.entries[after.count as usize..before.count as usize];
+        self.fences_dropped += fences(dropped);
         self.wrong_predictions += (gone != 0 || before.fetch != after.fetch) as u64;
         self.steals += is_steal(before, after, position) as u64;
     }
@@ -40,9 +56,11 @@ impl Counts {
     fn committed(&mut self, before: &Whole, after: &Whole) {
         if after.halt == 0 {
             self.commits += 1;
+            self.fences_committed += holds_fence(&before.entries[0]) as u64;
         } else {
             self.halts[after.halt as usize] += 1;
             self.dropped += before.count as u64 - 1;
+            self.fences_dropped += fences(&before.entries[1..before.count as usize]);
         }
     }
 
@@ -55,7 +73,10 @@ impl Counts {
         }
         self.accepted += 1;
         match call {
-            Call::Decode(_) | Call::Issue(_) => {}
+            Call::Decode(_) => {}
+            Call::Issue(position) => {
+                self.fences_issued += holds_fence(&before.entries[position]) as u64
+            }
             Call::Complete(position) => self.completed(before, after, position),
             Call::Commit => self.committed(before, after),
         }
@@ -78,6 +99,9 @@ impl Counts {
         }
         writeln!(out, "rounds of further calls {}", self.rounds)?;
         writeln!(out, "drains {}", self.drains)?;
+        writeln!(out, "fences issued {}", self.fences_issued)?;
+        writeln!(out, "fences committed {}", self.fences_committed)?;
+        writeln!(out, "fences dropped {}", self.fences_dropped)?;
         writeln!(out, "differences {}", self.differences)?;
         writeln!(out, "violations 0")
     }

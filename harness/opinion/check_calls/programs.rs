@@ -26,7 +26,8 @@ fn computing(s: u32, kind: u32) -> u32 {
     let rs1 = register(draw(s, 3));
     let x = draw(s, 4);
     match kind {
-        0..=19 => encoded(19 + x % 6, rd, rs1, 0, (x / 64 % 64).wrapping_sub(16)),
+        0..=17 => encoded(19 + x % 6, rd, rs1, 0, (x / 64 % 64).wrapping_sub(16)),
+        18 | 19 => encoded(40, rd, rs1, 0, (x / 64 % 4096).wrapping_sub(2048)),
         20..=30 => encoded(28 + x % 10, rd, rs1, register(x / 16), 0),
         31..=34 => encoded(25 + x % 3, rd, rs1, 0, x / 64 % 32),
         _ => encoded(1 + x % 2, rd, 0, 0, x / 64 % 4096),

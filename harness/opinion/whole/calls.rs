@@ -97,15 +97,15 @@ impl Whole {
 
     /// "Operands come from the general map (ready if valid), then the destination takes a name [...]; the entry waits."
     fn renamed(&mut self, instruction: &Instruction, guess: u32) -> Entry {
-        let left = self.operand(instruction.rs1);
-        let right = self.operand(instruction.rs2);
-        let (name, previous) = self.rename(instruction.rd);
+        let [left, right] = instruction.sources().map(|logical| self.operand(logical));
+        let destination = instruction.destination();
+        let (name, previous) = self.rename(destination);
         Entry {
             instruction: fields_of(instruction),
             address: self.fetch,
             left,
             right,
-            destination: instruction.rd,
+            destination,
             name,
             previous,
             predicted: predicted_next(instruction, self.fetch, guess),

@@ -41,7 +41,7 @@ pub enum State {
     Completed,
 }
 
-/// An instruction as numbers; operation 1 to 39 "in the order of the manual's RV32I listing", 0 for none.
+/// An instruction as numbers; operation 1 to 39 "in the order of the manual's RV32I listing without FENCE", 40 FENCE, 0 for none.
 #[derive(Clone, Copy, Debug, Default, PartialEq, Eq)]
 pub struct Fields {
     pub operation: u8,
