@@ -1,5 +1,6 @@
-// Programs and data from a seed: arithmetic on few registers, now and then a FENCE with any fields, loads and stores over small data,
-// short branches and jumps, and now and then an instruction that stops. The matches are of weights, which are no kinds: how often each instruction comes.
+// Programs and data from a seed: arithmetic on few registers, now and then a FENCE with any fields, loads and stores over small
+// data, short branches and jumps, and now and then an instruction that stops. The matches are of weights, which are no kinds: how
+// often each instruction comes.
 use crate::chance::draw;
 use isa::Instruction;
 
