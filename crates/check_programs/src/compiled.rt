@@ -2,12 +2,14 @@
 // the program, the data, and the data after the run, from 0, 4, 8, 12, 16, 144, 1,168 and 5,264 on.
 use execution::Stop;
 use refusals::Refusal;
-use std::alloc::Global;
+use std::fs::File;
 use std::io;
 use std::rt::Files;
 use vectors::Tally;
 
-type Record = [u8; 9360];
+const RECORD: usize = 9_360;
+
+type Record = [u8; RECORD];
 
 const DATA: usize = 4_096;
 
@@ -64,6 +66,16 @@ fn program(record: &Record) -> &[u8] {
     &place[..length]
 }
 
+// the record's data
+fn data_before(record: &Record) -> &[u8] {
+    &record[1168..5264]
+}
+
+// what the data should be after the run
+fn data_after(record: &Record) -> &[u8] {
+    &record[5264..]
+}
+
 // what the record says of the run; none where it has a number that no run gives
 fn told(record: &Record) -> Option<Progress> {
     Some(Progress {
@@ -77,19 +89,22 @@ fn told(record: &Record) -> Option<Progress> {
     })
 }
 
-pub fn test<R: Files + Print + Eprint + Alloc<A = Global>>(rt: &R) -> io::Result<()> {
-    let Some(bytes) = vectors::contents(rt, "compiled.bin")? else {
-        return Ok(());
-    };
-    let (records, _) = bytes.as_chunks();
-    let mut data = vec![in rt.alloc(); 0; DATA]?;
+pub fn test<R: Files<File = File> + Print + Eprint>(rt: &R) -> io::Result<()> {
+    let mut data = [0; DATA];
     let mut steps = 0u64;
-    let tally = Tally::of(records, |record: &Record| {
-        vectors::lay(&mut data, 0, &record[1168..5264]);
+    let tested = Tally::of_file::<RECORD, _, _>(rt, "compiled.bin", |bytes| {
+        let Some(record) = bytes.as_array() else {
+            return false;
+        };
+        vectors::lay(&mut data, 0, data_before(record));
         let progress = run(program(record), &mut data);
         vectors::add(&mut steps, progress.steps);
-        told(record) == Some(progress) && data.as_slice() == &record[5264..]
+        told(record) == Some(progress) && &data[..] == data_after(record)
     });
-    tally.print(rt, "compiled")?;
-    println!(rt; "steps {steps}")
+    let Some(tally) = tested? else {
+        return Ok(());
+    };
+    let _ = tally.print(rt, "compiled");
+    let _ = println!(rt; "steps {steps}");
+    Ok(())
 }

@@ -2,13 +2,17 @@
 // 0 to 511 after the run, from 0, 256, 512, 640, 644, 648 and 652 on.
 use execution::Stop;
 use reference::Ran;
-use reference::lengths::LONGEST_DATA;
-use std::alloc::Global;
+use std::fs::File;
 use std::io;
 use std::rt::Files;
 use vectors::Tally;
 
-type Record = [u8; 1164];
+const RECORD: usize = 1_164;
+
+type Record = [u8; RECORD];
+
+// as many data bytes as a run accepts
+const DATA: usize = 16_384;
 
 const MOST: u16 = 65_535;
 
@@ -31,20 +35,28 @@ fn run(record: &Record, data: &mut [u8]) -> Ran {
     reference::run(&record[..256], data, [0; 32], 0, MOST)
 }
 
-pub fn test<R: Files + Print + Eprint + Alloc<A = Global>>(rt: &R) -> io::Result<()> {
-    let Some(bytes) = vectors::contents(rt, "programs.bin")? else {
-        return Ok(());
-    };
-    let (records, _) = bytes.as_chunks();
-    let mut data = vec![in rt.alloc(); 0; LONGEST_DATA]?;
-    let mut want = vec![in rt.alloc(); 0; LONGEST_DATA]?;
+// the data's first bytes after the run; zeros come after these
+fn data_after(record: &Record) -> &[u8] {
+    &record[652..]
+}
+
+pub fn test<R: Files<File = File> + Print + Eprint>(rt: &R) -> io::Result<()> {
+    let mut data = [0; DATA];
+    let mut want = [0; DATA];
     let mut steps = 0u64;
-    let tally = Tally::of(records, |record: &Record| {
+    let tested = Tally::of_file::<RECORD, _, _>(rt, "programs.bin", |bytes| {
+        let Some(record) = bytes.as_array() else {
+            return false;
+        };
         let ran = run(record, &mut data);
-        vectors::lay(&mut want, 0, &record[652..]);
+        vectors::lay(&mut want, 0, data_after(record));
         vectors::add(&mut steps, ran.steps.into());
         told(record) == Some(ran) && data == want
     });
-    tally.print(rt, "programs")?;
-    println!(rt; "steps {steps}")
+    let Some(tally) = tested? else {
+        return Ok(());
+    };
+    let _ = tally.print(rt, "programs");
+    let _ = println!(rt; "steps {steps}");
+    Ok(())
 }

@@ -10,13 +10,14 @@ use std::io;
 use tally::Tally;
 
 fn main(rt: HostRuntime) -> io::Result<()> {
-    let Some(bytes) = vectors::contents(&rt, "cases.bin")? else {
+    let Some(mut file) = vectors::opened(&rt, "cases.bin")? else {
         return Ok(());
     };
     let mut tally = Tally::default();
-    let left = cases::all(&rt, &bytes, &mut tally)?;
-    if !left.is_empty() {
-        println!(rt; "cases.bin breaks off within a case")?;
+    // here and below a line that cannot be written is let go, and those after it are tried
+    if !cases::all(&rt, &mut file, &mut tally) {
+        let _ = println!(rt; "cases.bin breaks off within a case");
     }
-    tally.print(&rt)
+    tally.print(&rt);
+    Ok(())
 }

@@ -2,7 +2,6 @@
 use bench::Replayed;
 use events::Counts;
 use refusals::Refusal;
-use std::io;
 
 // how many of the cases that differ are named
 const NAMED: u64 = 5;
@@ -26,12 +25,12 @@ impl Sums {
         vectors::add(&mut self.dropped, counts.dropped.into());
     }
 
-    fn print(&self, rt: &impl Print) -> io::Result<()> {
-        println!(rt; "accepted {}", self.accepted)?;
-        println!(rt; "refused {}", self.refused)?;
-        println!(rt; "committed {}", self.committed)?;
-        println!(rt; "steals {}", self.steals)?;
-        println!(rt; "dropped {}", self.dropped)
+    fn print(&self, rt: &impl Print) {
+        let _ = println!(rt; "accepted {}", self.accepted);
+        let _ = println!(rt; "refused {}", self.refused);
+        let _ = println!(rt; "committed {}", self.committed);
+        let _ = println!(rt; "steals {}", self.steals);
+        let _ = println!(rt; "dropped {}", self.dropped);
     }
 }
 
@@ -45,12 +44,7 @@ pub struct Tally {
 
 impl Tally {
     // One case more. A refused replay has no counts.
-    pub fn told(
-        &mut self,
-        rt: &impl Print,
-        answer: &Result<Replayed, Refusal>,
-        right: bool,
-    ) -> io::Result<()> {
+    pub fn told(&mut self, rt: &impl Print, answer: &Result<Replayed, Refusal>, right: bool) {
         if let Ok(found) = answer {
             self.sums.add(&found.counts);
         }
@@ -58,18 +52,17 @@ impl Tally {
         let named = !right && self.cases.differ < NAMED;
         self.cases.told(right);
         if named {
-            println!(rt; "differs: line of cases.txt {}", self.cases.tested)?;
+            let _ = println!(rt; "differs: line of cases.txt {}", self.cases.tested);
         }
-        Ok(())
     }
 
-    pub fn print(&self, rt: &impl Print) -> io::Result<()> {
-        self.cases.print(rt, "cases")?;
+    pub fn print(&self, rt: &impl Print) {
+        let _ = self.cases.print(rt, "cases");
         for (number, cases) in self.numbers.iter().enumerate() {
             if matches!(number, 0..=4 | 20..=26) {
-                println!(rt; "number {number} {cases}")?;
+                let _ = println!(rt; "number {number} {cases}");
             }
         }
-        self.sums.print(rt)
+        self.sums.print(rt);
     }
 }

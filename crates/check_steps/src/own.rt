@@ -3,12 +3,14 @@
 // and of data after it from 44 on, and the registers before and after it from 92 and 220 on.
 use reference::{Ran, Stepped};
 use refusals::Refusal;
-use std::alloc::{AllocError, Global};
+use std::fs::File;
 use std::io;
 use std::rt::Files;
 use vectors::Tally;
 
-type Record = [u8; 348];
+const RECORD: usize = 348;
+
+type Record = [u8; RECORD];
 
 // more than the 16,384 bytes that a step accepts, so that too many can be lent
 const ROOM: usize = 16_400;
@@ -83,21 +85,12 @@ fn called(record: &Record, program: &[u8], data: &mut [u8]) -> Answer {
 // would be common.
 #[derive(Drop)]
 struct Memories {
-    program: Vec<u8>,
-    data: Vec<u8>,
-    want: Vec<u8>,
+    program: [u8; ROOM],
+    data: [u8; ROOM],
+    want: [u8; ROOM],
 }
 
 impl Memories {
-    // takes an allocator and may fail, so it is no Default
-    fn new(alloc: Global) -> Result<Self, AllocError> {
-        Ok(Self {
-            program: vec![in alloc; 0; ROOM]?,
-            data: vec![in alloc; 0; ROOM]?,
-            want: vec![in alloc; 0; ROOM]?,
-        })
-    }
-
     // the record's 16 bytes of program, of data, and of data afterwards, at their places
     fn lay_out(&mut self, record: &Record) {
         let program_place = vectors::word(record, 4) as usize;
@@ -112,16 +105,27 @@ impl Memories {
         self.lay_out(record);
         let p = self.program.len().min(vectors::word(record, 0) as usize);
         let d = self.data.len().min(vectors::word(record, 8) as usize);
-        let answer = called(record, &self.program[..p], &mut self.data[..d]);
+        let data = &mut self.data[..];
+        let answer = called(record, &self.program[..p], &mut data[..d]);
         answer == told(record) && self.data == self.want
     }
 }
 
-pub fn test<R: Files + Print + Eprint + Alloc<A = Global>>(rt: &R) -> io::Result<()> {
-    let Some(bytes) = vectors::contents(rt, "own.bin")? else {
+pub fn test<R: Files<File = File> + Print + Eprint>(rt: &R) -> io::Result<()> {
+    let mut memories = Memories {
+        program: [0; ROOM],
+        data: [0; ROOM],
+        want: [0; ROOM],
+    };
+    let tested = Tally::of_file::<RECORD, _, _>(rt, "own.bin", |bytes| {
+        let Some(record) = bytes.as_array() else {
+            return false;
+        };
+        memories.is_right(record)
+    });
+    let Some(tally) = tested? else {
         return Ok(());
     };
-    let (records, _) = bytes.as_chunks();
-    let mut memories = Memories::new(rt.alloc())?;
-    Tally::of(records, |record| memories.is_right(record)).print(rt, "own")
+    let _ = tally.print(rt, "own");
+    Ok(())
 }

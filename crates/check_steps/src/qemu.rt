@@ -1,13 +1,17 @@
 // Single steps as QEMU makes them. A record has eight words: word, address, a, b, next, what, where, value.
 use execution::Stop;
 use reference::Stepped;
-use reference::lengths::{LONGEST_DATA, LONGEST_PROGRAM};
-use std::alloc::{AllocError, Global};
+use std::fs::File;
 use std::rt::Files;
 use std::{array, io};
 use vectors::Tally;
 
 const STRIDE: u32 = 2_654_435_761;
+
+const RECORD: usize = 32;
+
+// as many bytes as a step accepts
+const ROOM: usize = 16_384;
 
 // What the step does besides going on to the next address: a register gets a value, or it stops by a cause, or the data get
 // a value at a place, or nothing. `Option<Effect>` would be no plainer: nothing is one of the file's four cases.
@@ -30,7 +34,7 @@ struct Question {
 }
 
 // by the record's words what, where and value
-fn effect_of(record: &[u8; 32]) -> Effect {
+fn effect_of(record: &[u8; RECORD]) -> Effect {
     let what = vectors::word(record, 20);
     let value = vectors::word(record, 28);
     match what {
@@ -56,7 +60,7 @@ fn registers(word: u32, a: u32, b: u32) -> [u32; 32] {
     values
 }
 
-fn asked(record: &[u8; 32]) -> Question {
+fn asked(record: &[u8; RECORD]) -> Question {
     let word = vectors::word(record, 0);
     Question {
         word,
@@ -102,9 +106,9 @@ fn put(bytes: &mut [u8], at: usize, word: u32) {
 // Program, data, and what the data should be after a step; own.rt says why it has a struct of its own.
 #[derive(Drop)]
 struct Memories {
-    program: Vec<u8>,
-    data: Vec<u8>,
-    want: Vec<u8>,
+    program: [u8; ROOM],
+    data: [u8; ROOM],
+    want: [u8; ROOM],
 }
 
 // byte i is the highest byte of i * STRIDE
@@ -115,15 +119,14 @@ fn fill(data: &mut [u8]) {
 }
 
 impl Memories {
-    // takes an allocator and may fail, so it is no Default
-    fn new(alloc: Global) -> Result<Self, AllocError> {
-        let mut data = vec![in alloc; 0; LONGEST_DATA]?;
+    fn new() -> Self {
+        let mut data = [0; ROOM];
         fill(&mut data);
-        Ok(Self {
-            program: vec![in alloc; 0; LONGEST_PROGRAM]?,
-            want: data.clone()?,
+        Self {
+            program: [0; ROOM],
             data,
-        })
+            want: data,
+        }
     }
 
     // Makes the step and compares; afterwards the data are as wanted.
@@ -152,24 +155,26 @@ impl Memories {
     }
 }
 
-pub fn test<R: Files + Print + Eprint + Alloc<A = Global>>(rt: &R) -> io::Result<()> {
-    let Some(bytes) = vectors::contents(rt, "steps.bin")? else {
-        return Ok(());
-    };
-    let (records, _) = bytes.as_chunks();
-    let mut memories = Memories::new(rt.alloc())?;
+pub fn test<R: Files<File = File> + Print + Eprint>(rt: &R) -> io::Result<()> {
+    let mut memories = Memories::new();
     // the steps that stop, by cause
     let mut stops = [0; 8];
-    let tally = Tally::of(records, |record| {
+    let tested = Tally::of_file::<RECORD, _, _>(rt, "steps.bin", |bytes| {
+        let Some(record) = bytes.as_array() else {
+            return false;
+        };
         let q = asked(record);
         if let Effect::Stops(cause) = q.effect {
             vectors::count(&mut stops, cause as usize);
         }
         memories.is_right(q)
     });
-    tally.print(rt, "steps")?;
+    let Some(tally) = tested? else {
+        return Ok(());
+    };
+    let _ = tally.print(rt, "steps");
     for (cause, count) in stops.iter().enumerate().skip(1) {
-        println!(rt; "cause {cause} {count}")?;
+        let _ = println!(rt; "cause {cause} {count}");
     }
     Ok(())
 }

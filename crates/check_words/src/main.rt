@@ -2,6 +2,7 @@
 // words.bin: words, with the fields that GNU's and LLVM's disassemblers read from them.
 // legal.bin: which patterns of the bits 31-25, 14-12 and 6-0 QEMU runs.
 // refused.bin: fields that GNU's and LLVM's assemblers, or document 01 itself, refuse.
+// A line that cannot be written is let go, and the next is tried.
 #![tactic(auto)]
 
 mod operations;

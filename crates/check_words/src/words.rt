@@ -2,6 +2,7 @@
 use crate::operations;
 use crate::operations::{LAST_OPERATION, NAMES};
 use isa::Instruction;
+use std::fs::File;
 use std::io;
 use std::rt::Files;
 use vectors::Tally;
@@ -9,8 +10,10 @@ use vectors::Tally;
 // one count for each operation, and one at 0 for illegal words
 const COUNTS: usize = LAST_OPERATION + 1;
 
+const RECORD: usize = 12;
+
 // the instruction that the record tells, none for an illegal word
-fn instruction(record: &[u8; 12]) -> Option<Instruction> {
+fn instruction(record: &[u8; RECORD]) -> Option<Instruction> {
     if !operations::is_known(record[4] as u32) {
         return None;
     }
@@ -40,25 +43,28 @@ fn holds(word: u32, told: Option<Instruction>) -> bool {
     isa::read(word) == told && told.is_none_or(|i| writes(word, i))
 }
 
-fn print_counts(rt: &impl Print, counts: &[u64; COUNTS]) -> io::Result<()> {
+fn print_counts(rt: &impl Print, counts: &[u64; COUNTS]) {
     for (name, count) in NAMES.iter().zip(&counts[1..]) {
-        println!(rt; "{name} {count}")?;
+        let _ = println!(rt; "{name} {count}");
     }
-    println!(rt; "illegal {}", counts[0])
+    let _ = println!(rt; "illegal {}", counts[0]);
 }
 
-pub fn test<R: Files + Print + Eprint + Alloc>(rt: &R) -> io::Result<()> {
-    let Some(bytes) = vectors::contents(rt, "words.bin")? else {
-        return Ok(());
-    };
-    let (records, _) = bytes.as_chunks();
+pub fn test<R: Files<File = File> + Print + Eprint>(rt: &R) -> io::Result<()> {
     let mut counts = [0; COUNTS];
-    let tally = Tally::of(records, |record| {
+    let tested = Tally::of_file::<RECORD, _, _>(rt, "words.bin", |bytes| {
+        let Some(record) = bytes.as_array() else {
+            return false;
+        };
         let told = instruction(record);
         let number = told.unwrap_or_default().operation;
         vectors::count(&mut counts, number as usize);
         holds(vectors::word(record, 0), told)
     });
-    print_counts(rt, &counts)?;
-    tally.print_with_first(rt, "words")
+    let Some(tally) = tested? else {
+        return Ok(());
+    };
+    print_counts(rt, &counts);
+    let _ = tally.print_with_first(rt, "words");
+    Ok(())
 }

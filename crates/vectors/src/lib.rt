@@ -2,12 +2,13 @@
 #![tactic(auto)]
 
 mod files;
+mod records;
 mod tally;
 
 ghost use Rattle.std.specs.Prelude.{◌≡◌, ◌↔◌, IsTrue, true, ℕ, ◌+◌, ◌*◌, ◌^◌, ◌<◌, length, get_or};
 ghost use Rattle.vectors.specs.Records.{word_at, Laid};
 
-pub use files::contents;
+pub use files::{contents, fill, opened};
 use std::array;
 pub use tally::{Tally, add, count};
 

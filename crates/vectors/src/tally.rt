@@ -39,19 +39,20 @@ impl Tally {
         self.tested = self.tested.wrapping_add(1);
     }
 
-    // Two lines: how many were tested, under a name, and how many differ. Here as in the test programs' own tallies lines of a
+    // Two lines: how many were tested, under a name, and how many differ; the second also where the first cannot be written. Here as in the test programs' own tallies lines of a
     // report, in part under a name that the struct has not: Display would be no shorter.
     pub fn print(&self, rt: &impl Print, name: &str) -> io::Result<()> {
-        println!(rt; "{name} {}", self.tested)?;
-        println!(rt; "differ {}", self.differ)
+        let tested = println!(rt; "{name} {}", self.tested);
+        let differ = println!(rt; "differ {}", self.differ);
+        tested.and(differ)
     }
 
     // The same, and a third line that names the first that differs.
     pub fn print_with_first(&self, rt: &impl Print, name: &str) -> io::Result<()> {
-        self.print(rt, name)?;
+        let counted = self.print(rt, name);
         match self.first {
-            Some(first) => println!(rt; "first {first}"),
-            None => Ok(()),
+            Some(first) => counted.and(println!(rt; "first {first}")),
+            None => counted,
         }
     }
 }
