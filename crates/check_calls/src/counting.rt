@@ -1,7 +1,6 @@
 // What was seen.
 use crate::calls::Answered;
 use renaming::Core;
-use std::io;
 use vectors::add;
 use window::Call;
 
@@ -104,26 +103,26 @@ impl Counts {
         }
     }
 
-    pub fn print(&self, rt: &impl Print) -> io::Result<()> {
-        println!(rt; "lists {}", self.lists)?;
-        println!(rt; "calls {}", self.calls)?;
-        println!(rt; "accepted {}", self.accepted)?;
+    pub fn print(&self, rt: &impl Print) {
+        let _ = println!(rt; "lists {}", self.lists);
+        let _ = println!(rt; "calls {}", self.calls);
+        let _ = println!(rt; "accepted {}", self.accepted);
         for number in [5, 6, 10, 11, 12, 13, 14, 15, 16] {
-            println!(rt; "refused by {number} {}", self.refused[number])?;
+            let _ = println!(rt; "refused by {number} {}", self.refused[number]);
         }
-        println!(rt; "steals {}", self.steals)?;
-        println!(rt; "dropped {}", self.dropped)?;
-        println!(rt; "wrong predictions {}", self.wrong_predictions)?;
-        println!(rt; "commits {}", self.commits)?;
+        let _ = println!(rt; "steals {}", self.steals);
+        let _ = println!(rt; "dropped {}", self.dropped);
+        let _ = println!(rt; "wrong predictions {}", self.wrong_predictions);
+        let _ = println!(rt; "commits {}", self.commits);
         for (cause, halts) in self.halts.iter().enumerate().skip(1) {
-            println!(rt; "halts with {cause} {halts}")?;
+            let _ = println!(rt; "halts with {cause} {halts}");
         }
-        println!(rt; "rounds of further calls {}", self.rounds)?;
-        println!(rt; "drains {}", self.drains)?;
-        println!(rt; "fences issued {}", self.fences.issued)?;
-        println!(rt; "fences committed {}", self.fences.committed)?;
-        println!(rt; "fences dropped {}", self.fences.dropped)?;
-        println!(rt; "differences {}", self.differences)?;
-        println!(rt; "violations {}", self.violations)
+        let _ = println!(rt; "rounds of further calls {}", self.rounds);
+        let _ = println!(rt; "drains {}", self.drains);
+        let _ = println!(rt; "fences issued {}", self.fences.issued);
+        let _ = println!(rt; "fences committed {}", self.fences.committed);
+        let _ = println!(rt; "fences dropped {}", self.fences.dropped);
+        let _ = println!(rt; "differences {}", self.differences);
+        let _ = println!(rt; "violations {}", self.violations);
     }
 }

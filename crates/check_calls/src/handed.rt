@@ -6,8 +6,6 @@ use crate::run::{Run, Until};
 use crate::sums::{self, Sum};
 use crate::{chance, changes};
 use renaming::Core;
-use std::alloc::{AllocError, Global};
-use std::io;
 use vectors::add;
 use window::{Call, Machine};
 
@@ -79,17 +77,17 @@ impl Answers {
         sum.value
     }
 
-    pub fn print(&self, rt: &impl Print) -> io::Result<()> {
-        println!(rt; "machines {}", self.machines)?;
+    pub fn print(&self, rt: &impl Print) {
+        let _ = println!(rt; "machines {}", self.machines);
         for number in [0, 5, 6, 10, 11, 12, 13, 14, 15, 16] {
             let calls = self.calls[number];
             let drains = self.drains[number];
-            println!(rt;
+            let _ = println!(rt;
                 "answered by {number}: calls {calls}, drains {drains}, reports {}",
                 self.reports[number]
-            )?;
+            );
         }
-        println!(rt; "refused and changed {}", self.changed)
+        let _ = println!(rt; "refused and changed {}", self.changed);
     }
 }
 
@@ -108,28 +106,24 @@ fn fullest(run: &mut Run, seed: u32, n: u32) -> Core {
 }
 
 // Of a list that breaks off so many machines, each with some changes; the sum of what their calls leave.
-pub fn machines(
-    alloc: Global,
-    from: u32,
-    k: u32,
-    answers: &mut Answers,
-) -> Result<u64, AllocError> {
+pub fn machines(from: u32, k: u32, answers: &mut Answers) -> u64 {
     let seed = draw(!from, k).wrapping_add(1);
     // an odd number: W and N are anywhere in their ranges
-    let mut run = Run::set_up(alloc, k | 1, seed, Counts::default())?;
+    let mut run = Run::set_up(k | 1, seed, Counts::default());
     let fullest = fullest(&mut run, seed, 10 + draw(seed, 104) % 110);
+    let lent = &mut run;
     let mut sum = Sum::start();
     let mut seed = seed;
     for _ in 0..FROM_EACH {
         seed = chance::next(seed);
         let handed = Handed {
             core: changes::changed(&fullest, seed),
-            program: &run.program,
-            data: &run.data,
+            program: lent.program.as_slice(),
+            data: lent.data.as_slice(),
         };
-        sum.add(answers.all(handed, &mut run.copy, seed));
+        sum.add(answers.all(handed, lent.copy.as_mut_slice(), seed));
     }
-    Ok(sum.value)
+    sum.value
 }
 
 // how many machines come from one list

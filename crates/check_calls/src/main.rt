@@ -5,6 +5,7 @@
 #![tactic(auto)]
 
 mod accounting;
+mod bytes;
 mod calls;
 mod chance;
 mod changes;
@@ -19,7 +20,6 @@ mod sums;
 
 use counting::Counts;
 use handed::Answers;
-use std::io;
 use sums::Sum;
 
 // Groups of ten lists, and lists of whose machines some are changed; a line for the sum of each. Scripts write other numbers here, and
@@ -31,28 +31,29 @@ const MACHINES: u32 = 120;
 
 const SEED: u32 = 0x1234_5678;
 
-fn all_lists(rt: &HostRuntime) -> io::Result<()> {
+// Here and below a line that cannot be written is let go, and those after it are tried.
+fn all_lists(rt: &impl Print) {
     let mut counts = Counts::default();
     for group in 0..LISTS {
         let mut sum = Sum::start();
         for k in 0..10 {
-            sum.add(lists::list(rt.alloc(), SEED, 10 * group + k, &mut counts)?);
+            sum.add(lists::list(SEED, 10 * group + k, &mut counts));
         }
-        println!(rt; "lists from {} on: {:016x}", 10 * group, sum.value)?;
+        let _ = println!(rt; "lists from {} on: {:016x}", 10 * group, sum.value);
     }
-    counts.print(rt)
+    counts.print(rt);
 }
 
-fn all_machines(rt: &HostRuntime) -> io::Result<()> {
+fn all_machines(rt: &impl Print) {
     let mut answers = Answers::default();
     for k in 0..MACHINES {
-        let sum = handed::machines(rt.alloc(), SEED, k, &mut answers)?;
-        println!(rt; "machines of list {k}: {sum:016x}")?;
+        let sum = handed::machines(SEED, k, &mut answers);
+        let _ = println!(rt; "machines of list {k}: {sum:016x}");
     }
-    answers.print(rt)
+    answers.print(rt);
 }
 
-fn main(rt: HostRuntime) -> io::Result<()> {
-    all_lists(&rt)?;
-    all_machines(&rt)
+fn main(rt: HostRuntime) {
+    all_lists(&rt);
+    all_machines(&rt);
 }

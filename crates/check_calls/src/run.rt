@@ -1,4 +1,5 @@
 // A machine driven by calls, beside the in-order run.
+use crate::bytes::Bytes;
 use crate::calls::Lent;
 use crate::chance::draw;
 use crate::counting::Counts;
@@ -6,7 +7,6 @@ use crate::ordered::Ordered;
 use crate::sums::{self, Sum};
 use crate::{accounting, calls, chance, changes, programs, resting};
 use renaming::Core;
-use std::alloc::{AllocError, Global};
 use vectors::add;
 use window::{Call, Machine};
 
@@ -16,10 +16,10 @@ use window::{Call, Machine};
 pub struct Run {
     pub core: Core,
     ordered: Ordered,
-    pub program: Vec<u8>,
-    pub data: Vec<u8>,
-    want: Vec<u8>,
-    pub copy: Vec<u8>,
+    pub program: Bytes<PROGRAM>,
+    pub data: Bytes<DATA>,
+    want: Bytes<DATA>,
+    pub copy: Bytes<DATA>,
     pub counts: Counts,
     pub sum: Sum,
 }
@@ -41,6 +41,15 @@ fn sizes(k: u32, seed: u32) -> (u32, u32) {
     (1 + draw(seed, 102) % 64, 32 + draw(seed, 103) % 64)
 }
 
+// The most bytes of a program and of data.
+const PROGRAM: usize = 256;
+
+const DATA: usize = 64;
+
+fn program_length(seed: u32) -> usize {
+    4 * (16 + draw(seed, 100) % 49) as usize
+}
+
 // mostly 40 to 64 bytes, now and then none or few; never 3, which is another length (`calls::made_with`)
 fn data_length(seed: u32) -> usize {
     let x = draw(seed, 101);
@@ -56,25 +65,25 @@ const REGISTERS: [u32; 8] = [32, 32, 33, 33, 34, 34, 40, 95];
 
 impl Run {
     // A fresh machine, with a program and data from the seed.
-    pub fn set_up(alloc: Global, k: u32, seed: u32, counts: Counts) -> Result<Self, AllocError> {
-        let length = 4 * (16 + draw(seed, 100) % 49) as usize;
+    pub fn set_up(k: u32, seed: u32, counts: Counts) -> Self {
+        let length = program_length(seed);
         let bytes = data_length(seed);
         let (window, registers) = sizes(k, seed);
         let fresh = Machine::set_up(window, registers, length, bytes);
-        let mut program = vec![in alloc; 0; length]?;
-        let mut data = vec![in alloc; 0; bytes]?;
-        programs::fill_program(&mut program, seed);
-        programs::fill_data(&mut data, seed);
-        Ok(Self {
+        let mut program = Bytes::zeros(length);
+        let mut data = Bytes::zeros(bytes);
+        programs::fill_program(program.as_mut_slice(), seed);
+        programs::fill_data(data.as_mut_slice(), seed);
+        Self {
             core: fresh.machine.core,
             ordered: Ordered::default(),
             program,
-            want: data.clone()?,
-            copy: data.clone()?,
             data,
+            want: data,
+            copy: data,
             counts,
             sum: Sum::start(),
-        })
+        }
     }
 
     // The number of an answer, the machine and the data after it, and the report.
@@ -82,7 +91,7 @@ impl Run {
         let report = Machine { core: *m }.report();
         self.sum.add(u64::from(number));
         self.sum.add(sums::of_machine(m));
-        self.sum.add(sums::of_bytes(&self.data));
+        self.sum.add(sums::of_bytes(self.data.as_slice()));
         self.sum.add(u64::from(report.number));
         self.sum.words(&report.registers);
     }
@@ -90,16 +99,19 @@ impl Run {
     // A call, and what is to hold after it: a refused one changed nothing, and other lengths are refused by 6.
     fn call(&mut self, call: Call, lengths: Lent) {
         let before = self.core;
-        let answered = calls::made_with(&before, &self.program, &mut self.data, call, lengths);
+        let program = self.program.as_slice();
+        let data = self.data.as_mut_slice();
+        let answered = calls::made_with(&before, program, data, call, lengths);
         self.core = answered.after;
         let accepted = answered.number == 0;
         if accepted && call == Call::Commit {
-            self.ordered.step(&self.program, &mut self.want);
+            self.ordered.step(program, self.want.as_mut_slice());
         }
         self.counts.made(&before, call, &answered);
         let kept = accepted || before == self.core;
         let refused = lengths == Lent::AsSetUp || answered.number == 6;
-        let agrees = self.data == self.want && self.ordered.agrees(&self.core);
+        let same = self.data.as_slice() == self.want.as_slice();
+        let agrees = same && self.ordered.agrees(&self.core);
         self.counts.expect_no_difference(kept && refused && agrees);
         let rests = accounting::holds(&self.core) && resting::rests(&self.core);
         self.counts.expect_no_violation(rests);
@@ -109,7 +121,8 @@ impl Run {
     // A call on a copy with one number out of range: 5, and the copy comes back as it was.
     fn call_damaged(&mut self, call: Call, k: u32) {
         let damaged = changes::damaged(&self.core, k);
-        let answered = calls::made(&damaged, &self.program, &mut self.data, call);
+        let program = self.program.as_slice();
+        let answered = calls::made(&damaged, program, self.data.as_mut_slice(), call);
         let machine = Machine { core: damaged };
         let report = machine.report();
         self.counts.made(&damaged, call, &answered);
@@ -121,9 +134,10 @@ impl Run {
 
     // A drain of a copy: it ends without entries or halted, after at most three calls for each entry.
     fn drain(&mut self) {
-        vectors::lay(&mut self.copy, 0, &self.data);
+        let copy = self.copy.as_mut_slice();
+        vectors::lay(copy, 0, self.data.as_slice());
         let machine = Machine { core: self.core };
-        let drained = machine.drain(&self.program, &mut self.copy);
+        let drained = machine.drain(self.program.as_slice(), copy);
         let after = drained.machine.core;
         let ended = after.count == 0 || after.halt.cause != 0;
         let most = 3 * u32::from(self.core.count);
@@ -133,7 +147,7 @@ impl Run {
             .expect_no_difference(drained.number == 0 && ended && few);
         self.sum.add(u64::from(drained.calls));
         self.sum.add(sums::of_machine(&after));
-        self.sum.add(sums::of_bytes(&self.copy));
+        self.sum.add(sums::of_bytes(self.copy.as_slice()));
     }
 
     // At most four calls, all accepted, the last a commit.
@@ -156,7 +170,7 @@ impl Run {
             return;
         }
         let registers = &self.ordered.last.registers;
-        let call = calls::chosen(&self.core, &self.program, registers, seed);
+        let call = calls::chosen(&self.core, self.program.as_slice(), registers, seed);
         if pick == 2 {
             self.call_damaged(call, draw(seed, 4));
             return;

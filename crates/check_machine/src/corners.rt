@@ -2,14 +2,13 @@
 use crate::judging::Trial;
 use crate::samples;
 use renaming::{Core, Dimensions};
-use std::io;
 
 const WINDOWS: [u32; 4] = [1, 2, 63, 64];
 
 const REGISTERS: [u32; 4] = [32, 33, 94, 95];
 
 // Damages all machines in one way, and prints what came of it.
-pub fn over(rt: &impl Print, name: &str, damage: fn(&mut Trial)) -> io::Result<()>
+pub fn over(rt: &impl Print, name: &str, damage: fn(&mut Trial))
     requires { IsAlwaysCallable damage }
 {
     let mut trial = Trial::default();
@@ -27,13 +26,15 @@ pub fn over(rt: &impl Print, name: &str, damage: fn(&mut Trial)) -> io::Result<(
                 program,
                 bytes,
             };
-            if let Ok(fresh) = Core::set_up(sizes) {
-                for machine in [fresh, samples::filled(&fresh)] {
-                    trial.machine = machine;
-                    damage(&mut trial);
-                }
+            let Ok(fresh) = Core::set_up(sizes) else {
+                trial.miss();
+                continue;
+            };
+            for machine in [fresh, samples::filled(&fresh)] {
+                trial.machine = machine;
+                damage(&mut trial);
             }
         }
     }
-    trial.print(rt, name)
+    trial.print(rt, name);
 }

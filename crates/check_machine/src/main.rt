@@ -15,7 +15,6 @@ mod store_cases;
 mod table_damage;
 
 use judging::Trial;
-use std::io;
 
 // What is damaged. No plainer otherwise: by `impl Fn` each row is a call of its own, by `dyn` each has a borrow more.
 const DAMAGES: [(&str, fn(&mut Trial)); 24] = [
@@ -45,10 +44,10 @@ const DAMAGES: [(&str, fn(&mut Trial)); 24] = [
     ("addresses and values of an entry", entry_damage::words),
 ];
 
-fn main(rt: HostRuntime) -> io::Result<()> {
-    setups::test(&rt)?;
+// A line that cannot be written is let go, and those after it are tried.
+fn main(rt: HostRuntime) {
+    setups::test(&rt);
     for (name, damage) in DAMAGES {
-        corners::over(&rt, name, damage)?;
+        corners::over(&rt, name, damage);
     }
-    Ok(())
 }

@@ -17,16 +17,46 @@ pub fn instruction(operation: u8, rd: u8, rs1: u8, rs2: u8, constant: i32) -> In
     }
 }
 
+// A place past the last entry, all zeros. Each number is written here and below: a test that took one from the code's default
+// would not see it change.
+pub const EMPTY: Entry = Entry {
+    instruction: Instruction {
+        operation: 0,
+        rd: 0,
+        rs1: 0,
+        rs2: 0,
+        constant: 0,
+    },
+    address: 0,
+    predicted: 0,
+    first: 0,
+    second: 0,
+    result: 0,
+    left: Operand::Zero,
+    right: Operand::Zero,
+    destination: 0,
+    name: 0,
+    previous: 0,
+    state: State::Waits,
+    stop: Stop { cause: 0 },
+};
+
 // A waiting ADDI x1, x2, 5.
 pub fn plain() -> Entry {
     Entry {
         instruction: instruction(19, 1, 2, 0, 5),
+        address: 0,
         predicted: 4,
+        first: 0,
+        second: 0,
+        result: 0,
         left: Operand::Ready(2, 2),
+        right: Operand::Zero,
         destination: 1,
         name: 32,
         previous: 1,
-        ..Entry::default()
+        state: State::Waits,
+        stop: Stop { cause: 0 },
     }
 }
 
@@ -51,7 +81,7 @@ fn without_destination(instruction: Instruction, left: Operand, right: Operand) 
         left,
         right,
         predicted: 4,
-        ..Entry::default()
+        ..EMPTY
     }
 }
 
