@@ -1,7 +1,6 @@
 // A first program: one instruction goes through the window, call by call.
 #![tactic(auto)]
 
-use std::io;
 use window::Machine;
 
 // ADDI x1, x0, 5
@@ -19,7 +18,7 @@ fn first_committed(fresh: Machine, program: &[u8], data: &mut [u8]) -> Machine {
     committed.machine
 }
 
-fn main(rt: HostRuntime) -> io::Result<()> {
+fn main() {
     let program = PROGRAM;
     let mut data = [0u8; 0];
     // a window of 2 entries, 32 physical registers
@@ -28,7 +27,6 @@ fn main(rt: HostRuntime) -> io::Result<()> {
     let machine = first_committed(fresh, &program, &mut data);
     let report = machine.report();
     if report.registers[1] == 5 {
-        println!(rt; "x1 is 5")?;
+        io::write_all(1, b"x1 is 5\n");
     }
-    Ok(())
 }

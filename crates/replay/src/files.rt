@@ -1,5 +1,6 @@
 // Files of the working folder, which may be missing.
-use std::alloc::Global;
+ghost use Rattle.std.specs.Prelude.{◌≤◌, length};
+
 use std::fs::File;
 use std::io;
 use std::io::{ErrorKind, Read};
@@ -29,24 +30,44 @@ impl Input {
         Ok(Some(Input { name, file }))
     }
 
-    // The file's bytes, and no more than `most` of them; none of a missing file. None, after a line on standard error, where
-    // reading ends at an error and not at the file's end.
-    pub fn read<R: Eprint + Alloc<A = Global>>(
-        self,
-        rt: &R,
-        most: usize,
-    ) -> io::Result<Option<Vec<u8>>> {
-        let Input { name, file } = self;
-        let mut bytes = Vec::new(rt.alloc());
-        let Some(file) = file else {
-            return Ok(Some(bytes));
+    // Fills the buffer from its start, and answers how many bytes there were; none in a missing file.
+    pub fn read(&self, buffer: &mut [u8]) -> usize
+        ensures { result ≤ length buffer.new }
+    {
+        match &self.file {
+            Some(file) => fill(file, buffer),
+            None => 0,
+        }
+    }
+
+    // Whether reading ended at an error and not at the file's end; then a line on standard error says so.
+    pub fn failed(&self, rt: &impl Eprint) -> io::Result<bool> {
+        let Some(file) = &self.file else {
+            return Ok(false);
         };
-        match file.take(most as u64).read_to_end(&mut bytes) {
-            Ok(_) => Ok(Some(bytes)),
+        let mut file = file;
+        let mut further = [0u8; 1];
+        match file.read(&mut further) {
+            Ok(_) => Ok(false),
             Err(e) => {
-                eprintln!(rt; "{name}: {e}")?;
-                Ok(None)
+                eprintln!(rt; "{}: {e}", self.name)?;
+                Ok(true)
             }
         }
     }
+}
+
+// up to the end, or to a read that fails
+fn fill(mut file: &File, buffer: &mut [u8]) -> usize
+    ensures { result ≤ length buffer.new }
+{
+    let mut done = 0;
+    // each read that goes on brings a byte at least
+    for _ in 0..buffer.len() {
+        match file.read(&mut buffer[done..]) {
+            Ok(0) | Err(_) => return done,
+            Ok(n) => done += n,
+        }
+    }
+    done
 }
