@@ -12,7 +12,7 @@ pub use execution::Stop;
 pub use isa::Instruction;
 pub use ranges::Setup;
 use renaming::Core;
-pub use tables::{Entry, Operand, State};
+pub use tables::{Entry, FreeList, GeneralMap, Mapping, Operand, State};
 
 // The machine, from set-up to report: its methods are all that a buyer calls of this level.
 #[derive(Clone, Copy)]
