@@ -1,6 +1,5 @@
 -- Replay's refusals in turn.
 use Prim.Native.Nat.{ℕ}
-use Rattle.std.proofs.Common.{Result, Ok, Err}
 use mathlib.Core.Path.{◌≡◌, refl, sym, ap, ◌∙◌}
 use mathlib.Core.Bool.{Bool, true, false, not}
 use mathlib.Core.List.{List, [], ◌∷◌}
@@ -9,15 +8,12 @@ use lib.Dec.{eqb}
 use lib.ListN.{length}
 use Rattle.isa.specs.Reads.{choose}
 use Rattle.reference.specs.Step.{when, first, length_refusal}
-use Rattle.refusals.specs.Numbers.{number, number_of}
+use Rattle.refusals.specs.Numbers.{number}
 use Rattle.refusals.specs.declared.Refusal.{Refusal}
 use Rattle.refusals.proofs.Laws.{number_some}
 use Rattle.ranges.specs.Sizes.{setup_of, set_up_refusal}
 use Rattle.ranges.specs.declared.Setup.{Setup}
-use Rattle.renaming.specs.Core.{zero_machine}
-use Rattle.renaming.specs.SetUp.{fresh_machine, set_up_answer, set_up_of}
-use Rattle.renaming.specs.Answer.{Answer}
-use Rattle.renaming.specs.declared.Core.{Core}
+use Rattle.renaming.specs.SetUp.{fresh_machine}
 use Rattle.formats.specs.Schedule.{schedule_fits, malformed, head_refusal, window_in, registers_in}
 use Rattle.formats.specs.Chain.{schedule_refusal}
 use Rattle.renaming.proofs.RefusalLaws.{passed, both_none}
@@ -32,24 +28,6 @@ head_fits schedule e = not-false _ (passed (not (schedule_fits (length schedule)
 alone : (n : ℕ) (b : Bool) → eqb n 0 ≡ b → n ≡ choose b 0 n
 alone n true z = eqb-true n 0 z
 alone n false z = refl
-
--- a set-up's number, and its machine
-module _ (s : Setup) where
-  answer_number : (set_up_of s).number ≡ set_up_refusal s
-  unfolding set_up_of
-  answer_number = at (eqb (set_up_refusal s) 0) refl
-    where
-      at : (b : Bool) → eqb (set_up_refusal s) 0 ≡ b → (choose {A = Answer} b (record { core = fresh_machine s; number = 0 }) (record { core = zero_machine; number = set_up_refusal s })).number ≡ set_up_refusal s
-      at true z = sym (eqb-true (set_up_refusal s) 0 z)
-      at false z = refl
-
-  set_number : (r : Result Core Refusal) → set_up_answer r ≡ set_up_of s → number_of r ≡ set_up_refusal s
-  set_number (Ok core) e = ap (λ (a : Answer). a.number) e ∙ answer_number
-  set_number (Err refusal) e = ap (λ (a : Answer). a.number) e ∙ answer_number
-
-  set_core : (core : Core) → set_up_answer (Ok core) ≡ set_up_of s → core ≡ fresh_machine s
-  unfolding set_up_of
-  set_core core e = ap (λ (a : Answer). a.core) e ∙ rw (eq-eqb (set_up_refusal s) 0 (sym (set_number (Ok core) e)))
 
 -- neither the lengths, nor the result's, nor record 0 are refused, and record 0 gives W and N
 pub record Passed (program memory schedule : List ℕ) (size window registers : ℕ) : Type 0 where
@@ -66,27 +44,28 @@ module _ {program memory schedule : List ℕ} {size window registers : ℕ} (p :
   same : set ≡ setup_in program memory schedule
   same = rw (p.window_is, p.registers_are)
 
-  pub set_stop : (refusal : Refusal) → set_up_answer (Err refusal) ≡ set_up_of set → number refusal ≡ replay_refusal program memory schedule size
+  pub set_stop : (refusal : Refusal) → number refusal ≡ set_up_refusal set → number refusal ≡ replay_refusal program memory schedule size
   unfolding replay_refusal first
   set_stop refusal e =
-      let is : set_up_refusal (setup_in program memory schedule) ≡ number refusal = sym (set_number set (Err refusal) e ∙ ap set_up_refusal same) in
+      let is : set_up_refusal (setup_in program memory schedule) ≡ number refusal = sym (e ∙ ap set_up_refusal same) in
       rw (← p.lengths, eq-eqb size result_length p.right, ← p.head, is, ne_eqb (number refusal) 0 (number_some refusal))
 
-  accepted : (core : Core) → set_up_answer (Ok core) ≡ set_up_of set → set_up_refusal (setup_in program memory schedule) ≡ 0
-  accepted core e = sym (set_number set (Ok core) e ∙ ap set_up_refusal same)
+  module _ (none : 0 ≡ set_up_refusal set) where
+    accepted : set_up_refusal (setup_in program memory schedule) ≡ 0
+    accepted = sym (none ∙ ap set_up_refusal same)
 
-  pub chain_last : (core : Core) → set_up_answer (Ok core) ≡ set_up_of set → (k : ℕ) → k ≡ schedule_refusal schedule → k ≡ replay_refusal program memory schedule size
-  unfolding replay_refusal first
-  chain_last core e k is = rw (← p.lengths, eq-eqb size result_length p.right, ← p.head, accepted core e, ← is) (alone k (eqb k 0) refl)
+    pub chain_last : (k : ℕ) → k ≡ schedule_refusal schedule → k ≡ replay_refusal program memory schedule size
+    unfolding replay_refusal first
+    chain_last k is = rw (← p.lengths, eq-eqb size result_length p.right, ← p.head, accepted, ← is) (alone k (eqb k 0) refl)
 
-  pub begun_ready : (core : Core) → set_up_answer (Ok core) ≡ set_up_of set → 0 ≡ schedule_refusal schedule → Ready core program memory schedule
-  begun_ready core e chain =
-      record {
-        fresh = set_core set core e ∙ ap fresh_machine same;
-        accepted = accepted core e;
-        fits = head_fits schedule (sym p.head);
-        chain = sym chain;
-      }
+    pub begun_ready : (setup : Setup) → setup ≡ set → 0 ≡ schedule_refusal schedule → Ready (fresh_machine setup) program memory schedule
+    begun_ready setup is chain =
+        record {
+          fresh = ap fresh_machine (is ∙ same);
+          accepted = accepted;
+          fits = head_fits schedule (sym p.head);
+          chain = sym chain;
+        }
 
 module _ (program memory schedule : List ℕ) (size : ℕ) where
   abbrev set_refusal : ℕ

@@ -54,22 +54,6 @@ fn own_mappings() -> [Mapping; 32]
     })
 }
 
-fn fresh(setup: Setup) -> Core
-    requires { setup.window ≤ most_entries }
-    ensures { result ≡ fresh_machine setup }
-{
-    Core {
-        setup,
-        map: GeneralMap {
-            mappings: own_mappings(),
-        },
-        physical: own_registers(),
-        free_registers: rising(setup.registers),
-        free_names: rising(setup.last_name()),
-        ..Core::zeros()
-    }
-}
-
 impl Core {
     // The machine of a refused set-up: the default, under the name of document 01's "machine of zeros". Inner: `window` uses it.
     pub fn zeros() -> Core
@@ -78,11 +62,30 @@ impl Core {
         Core::default()
     }
 
+    // A machine of zeros becomes that of sizes that were accepted, in place. Inner: `window` and replay use it.
+    pub fn begin(&mut self, setup: Setup)
+        requires zeros { self.old ≡ Machines.zero_machine }
+        requires few { setup.window ≤ most_entries }
+        ensures { self.new ≡ fresh_machine setup }
+    {
+        self.setup = setup;
+        self.map = GeneralMap {
+            mappings: own_mappings(),
+        };
+        self.physical = own_registers();
+        self.free_registers = rising(setup.registers);
+        self.free_names = rising(setup.last_name());
+    }
+
     // A fresh machine for a window of 1 to 64 entries, 32 to 95 physical registers and these lengths of program and
-    // data; refused by 1 to 4. Inner: `window` and replay use it.
+    // data; refused by 1 to 4. Inner: tests use it; `window` and replay begin a machine where it is to be, since a Result that holds
+    // one is copied.
     pub fn set_up(asked: Dimensions) -> Result<Core, Refusal>
         ensures { set_up_answer result ≡ set_up_of (setup_of asked.window asked.registers asked.program asked.bytes) }
     {
-        Ok(fresh(Setup::try_from(asked)?))
+        let setup = Setup::try_from(asked)?;
+        let mut core = Core::zeros();
+        core.begin(setup);
+        Ok(core)
     }
 }

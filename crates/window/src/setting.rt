@@ -3,7 +3,7 @@ ghost use Rattle.renaming.specs.SetUp.{set_up_of};
 ghost use Rattle.ranges.specs.Sizes.{setup_of};
 ghost use Rattle.window.specs.Handed as Handed;
 
-use crate::{Answer, Machine};
+use crate::{Answer, Machine, Setup};
 use renaming::{Core, Dimensions};
 
 impl Machine {
@@ -18,17 +18,17 @@ impl Machine {
             program,
             bytes,
         };
-        match Core::set_up(asked) {
-            Ok(core) => Answer {
-                machine: Machine { core },
-                number: 0,
+        // in the answer: a machine that a Result or another function hands on is copied
+        let mut answer = Answer {
+            machine: Machine {
+                core: Core::zeros(),
             },
-            Err(refusal) => Answer {
-                machine: Machine {
-                    core: Core::zeros(),
-                },
-                number: refusal.into(),
-            },
+            number: 0,
+        };
+        match Setup::try_from(asked) {
+            Ok(setup) => answer.machine.core.begin(setup),
+            Err(refusal) => answer.number = refusal.into(),
         }
+        answer
     }
 }

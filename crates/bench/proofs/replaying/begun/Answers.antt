@@ -9,11 +9,11 @@ passed : (c : After-registers_in) → Passed c.args.program.now c.args.«data».
 passed c =
     record { lengths = c.in_ok-check_lent.ensures; right = c.if-size-ne-RESULT_LENGTH.false; head = c.in_ok-check_head.ensures; window_is = c.window_in.ensures; registers_are = c.registers_in.ensures }
 
-pub returns-in_err-core-clause-number : goal.returns-in_err-core-clause-number
-returns-in_err-core-clause-number c =
-    let refusal = c.in_err-core.field-0.0 in
-    ap number_of (handed_on c.from_residual-in_err-core.result refusal c.from_residual-in_err-core.ensures.1)
-    ∙ set_stop (passed (goal.at.returns-in_err-core-clause-number c).After-registers_in) refusal c.in_err-core.ensures
+pub returns-in_err-setup-clause-number : goal.returns-in_err-setup-clause-number
+returns-in_err-setup-clause-number c =
+    let refusal = c.in_err-setup.field-0.0 in
+    ap number_of (handed_on c.from_residual-in_err-setup.result refusal c.from_residual-in_err-setup.ensures.1)
+    ∙ set_stop (passed (goal.at.returns-in_err-setup-clause-number c).After-registers_in) refusal c.in_err-setup.ensures.0
 
 pub check_chain-requires : goal.check_chain-requires
 check_chain-requires c = head_fits c.args.schedule.now (sym c.in_ok-check_head.ensures)
@@ -22,10 +22,10 @@ pub returns-in_err-check_chain-clause-number : goal.returns-in_err-check_chain-c
 returns-in_err-check_chain-clause-number c =
     let refusal = c.in_err-check_chain.field-0.0 in
     ap number_of (handed_on c.from_residual-in_err-check_chain.result refusal c.from_residual-in_err-check_chain.ensures.1)
-    ∙ chain_last (passed (goal.at.returns-in_err-check_chain-clause-number c).After-registers_in) _ c.in_ok-core.ensures _ c.in_err-check_chain.ensures
+    ∙ chain_last (passed (goal.at.returns-in_err-check_chain-clause-number c).After-registers_in) c.in_ok-setup.ensures.0 _ c.in_err-check_chain.ensures
 
 pub returns-clause-number : goal.returns-clause-number
-returns-clause-number c = chain_last (passed (goal.at.returns-clause-number c).After-registers_in) _ c.in_ok-core.ensures _ c.in_ok-check_chain.ensures
+returns-clause-number c = chain_last (passed (goal.at.returns-clause-number c).After-registers_in) c.in_ok-setup.ensures.0 _ c.in_ok-check_chain.ensures
 
 pub returns-clause-ready : goal.returns-clause-ready
-returns-clause-ready c = begun_ready (passed (goal.at.returns-clause-ready c).After-registers_in) _ c.in_ok-core.ensures c.in_ok-check_chain.ensures
+returns-clause-ready c = begun_ready (passed (goal.at.returns-clause-ready c).After-registers_in) c.in_ok-setup.ensures.0 _ c.in_ok-setup.ensures.1 c.in_ok-check_chain.ensures

@@ -5,4 +5,4 @@ use Rattle.bench.proofs.replaying.replay.Goals as goal
 pub lay-requires : goal.lay-requires
 lay-requires c =
     let a = c.args in
-    size_right a.program.now a.«data».now a.schedule.now _ (sym c.in_ok-core.ensures.number)
+    size_right a.program.now a.«data».now a.schedule.now _ (sym c.in_ok-setup.ensures.number)
