@@ -32,12 +32,12 @@ look_get t zero h = sym h
 look_get t (suc n) h = sym (look_within t (suc n) (λ e. omega arith))
 
 -- a number put back
-freed_head_lem : (head n : ℕ) → freed_head head n ≡ put_head n head
+pub freed_head_lem : (head n : ℕ) → freed_head head n ≡ put_head n head
 unfolding put_head
 freed_head_lem head zero = refl
 freed_head_lem head (suc n) = rw (ne_eqb (suc n) 0 (λ e. omega arith))
 
-freed_link_lem : (link : List ℕ) (head n : ℕ) → freed_link link head n ≡ put_link n head link
+pub freed_link_lem : (link : List ℕ) (head n : ℕ) → freed_link link head n ≡ put_link n head link
 unfolding put_link
 freed_link_lem link head zero = sym (store_zero link 0 head refl)
 freed_link_lem link head (suc n) = sym (store_within link (suc n) head (λ e. omega arith))

@@ -1,3 +1,4 @@
 -- Laws of the ranges.
 pub mod SizeLaws
 pub mod TableLaws
+pub mod EntryLaws

@@ -9,3 +9,5 @@ pub mod FreshInRange
 pub mod DropLaws
 pub mod RefusalLaws
 pub mod ChangeLaws
+pub mod EntryLaws
+pub mod OperationLaws

@@ -15,15 +15,15 @@ use Rattle.stealing.specs.Steal.{victim_among, victim_of, robbed}
 
 -- the search for a victim
 module _ (physical : List ℕ) (entries : List Entry) (position : ℕ) where
-  victim_none : victim_among 0 physical entries position ≡ position
+  pub victim_none : victim_among 0 physical entries position ≡ position
   unfolding victim_among
   victim_none = refl
 
-  victim_here : (n : ℕ) → (held physical (get_or entries (position + suc n) empty_entry) ≡ 0 → ⊥) → victim_among (suc n) physical entries position ≡ position + suc n
+  pub victim_here : (n : ℕ) → (held physical (get_or entries (position + suc n) empty_entry) ≡ 0 → ⊥) → victim_among (suc n) physical entries position ≡ position + suc n
   unfolding victim_among
   victim_here n h = rw (ne_eqb (held physical (get_or entries (position + suc n) empty_entry)) 0 h)
 
-  victim_next : (n : ℕ) → held physical (get_or entries (position + suc n) empty_entry) ≡ 0 → victim_among (suc n) physical entries position ≡ victim_among n physical entries position
+  pub victim_next : (n : ℕ) → held physical (get_or entries (position + suc n) empty_entry) ≡ 0 → victim_among (suc n) physical entries position ≡ victim_among n physical entries position
   unfolding victim_among
   victim_next n h = rw (eq-eqb (held physical (get_or entries (position + suc n) empty_entry)) 0 h)
 
